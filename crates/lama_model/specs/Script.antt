@@ -1,0 +1,145 @@
+-- The grammar of a script: bytes, lines, words, commands.
+use Rattle.std.specs.Prelude.{ℕ, ◌+◌, ◌-◌, ◌*◌, ◌==◌, nat_le, nat_lt, Bool, true, false, ◌&&◌, ◌||◌, if◌then◌else◌, List, [], ◌∷◌, length, filter, fold, codes, bytes_eq, Option, Some, None}
+use Rattle.std.specs.List.{slice_split, list_all}
+use Rattle.std.specs.Option.{option_map, option_and_then}
+use Rattle.lama_model.specs.declared.calls.Write.TheVariants.{Vertices, Add}
+use Rattle.lama_model.specs.declared.commands.Command.{Command}
+use Rattle.lama_model.specs.declared.commands.Command.TheVariants.{Write as Writes, Checkpoint as Checkpoints, Read as Reads}
+use Rattle.lama_model.specs.declared.commands.Read.TheVariants.{Row}
+
+abbrev pub is_line_feed : ℕ → Bool
+is_line_feed b = b == 10
+
+-- a blank or a tab
+abbrev pub is_blank : ℕ → Bool
+is_blank b = (b == 32) || (b == 9)
+
+abbrev pub is_digit : ℕ → Bool
+is_digit b = nat_le 48 b && nat_le b 57
+
+abbrev pub is_nonempty : List ℕ → Bool
+is_nonempty [] = false
+is_nonempty (b ∷ bs) = true
+
+-- nothing after the last line feed is no line
+abbrev pub without_empty_last : List (List ℕ) → List (List ℕ)
+without_empty_last [] = []
+without_empty_last (part ∷ []) = if is_nonempty part then part ∷ [] else []
+without_empty_last (part ∷ next ∷ parts) = part ∷ without_empty_last (next ∷ parts)
+
+-- the lines of the bytes, without their line feeds
+unfoldable pub lines : List ℕ → List (List ℕ)
+lines bytes = without_empty_last (slice_split is_line_feed bytes)
+
+-- a line without the carriage return at its end
+abbrev pub without_return : List ℕ → List ℕ
+without_return [] = []
+without_return (b ∷ []) = if b == 13 then [] else b ∷ []
+without_return (b ∷ c ∷ bs) = b ∷ without_return (c ∷ bs)
+
+-- the words of a line, parted by blanks and tabs
+unfoldable pub words : List ℕ → List (List ℕ)
+words line = filter is_nonempty (slice_split is_blank line)
+
+-- the value of digits, the first one the highest
+abbrev pub value_of : List ℕ → ℕ
+value_of digits = fold (λ n d. n * 10 + (d - 48)) 0 digits
+
+-- a number: one or more digits, with a value of at most 2 ^ 32 - 1
+unfoldable pub number : List ℕ → Option ℕ
+number word =
+    if is_nonempty word && list_all is_digit word && nat_le (value_of word) 4294967295 then Some (value_of word) else None
+
+-- add U V W, where all three are numbers
+abbrev pub add_of : Option ℕ → Option ℕ → Option ℕ → Option Command
+add_of u v w = option_and_then (λ u. option_and_then (λ v. option_map (λ w. Writes (Add u v w)) w) v) u
+
+abbrev pub vertices_command : List (List ℕ) → Option Command
+vertices_command [] = None
+vertices_command (n ∷ []) = option_map (λ n. Writes (Vertices n)) (number n)
+vertices_command (n ∷ more ∷ args) = None
+
+-- the weight is 1 where it is absent
+abbrev pub add_command : List (List ℕ) → Option Command
+add_command [] = None
+add_command (u ∷ []) = None
+add_command (u ∷ v ∷ []) = add_of (number u) (number v) (Some 1)
+add_command (u ∷ v ∷ w ∷ []) = add_of (number u) (number v) (number w)
+add_command (u ∷ v ∷ w ∷ more ∷ args) = None
+
+abbrev pub checkpoint_command : List (List ℕ) → Option Command
+checkpoint_command [] = Some Checkpoints
+checkpoint_command (more ∷ args) = None
+
+-- a row of the newest snapshot
+abbrev pub row_command : List (List ℕ) → Option Command
+row_command [] = None
+row_command (v ∷ []) = option_map (λ v. Reads None (Row v)) (number v)
+row_command (v ∷ more ∷ args) = None
+
+-- the command that the words spell, first word first
+unfoldable pub command_of : List ℕ → List (List ℕ) → Option Command
+command_of word args =
+    if bytes_eq word (codes "vertices") then vertices_command args
+    else (if bytes_eq word (codes "add") then add_command args
+    else (if bytes_eq word (codes "checkpoint") then checkpoint_command args
+    else (if bytes_eq word (codes "row") then row_command args
+    else None)))
+
+-- what a line says
+pub data Meaning : Type 0 where
+  -- no words, or a comment
+  Skipped : Meaning
+  Says : Command → Meaning
+  Bad : Meaning
+
+abbrev pub said_or_bad : Option Command → Meaning
+said_or_bad (Some c) = Says c
+said_or_bad None = Bad
+
+-- a comment's first word begins with a number sign
+abbrev pub is_comment : List ℕ → Bool
+is_comment [] = false
+is_comment (b ∷ bs) = b == 35
+
+abbrev pub meaning_of_words : List (List ℕ) → Meaning
+meaning_of_words [] = Skipped
+meaning_of_words (word ∷ args) = if is_comment word then Skipped else said_or_bad (command_of word args)
+
+-- what a line says, given without its line feed
+unfoldable pub meaning : List ℕ → Meaning
+meaning line = if nat_lt 1024 (length line) then Bad else meaning_of_words (words (without_return line))
+
+-- what a script does in one step
+pub data Item : Type 0 where
+  One : Command → Item
+
+-- how a script ends
+pub data End : Type 0 where
+  -- without a bad line
+  Whole : End
+  -- at its first bad line, of this number
+  BadAt : ℕ → End
+  -- after the greatest number of lines
+  TooMany : End
+
+-- the items that count, and the end
+pub record Script : Type 0 where
+  pub items : List Item
+  pub end : End
+
+-- the line of number n, before the rest of the script
+abbrev pub with_line : ℕ → Meaning → Script → Script
+with_line n Skipped rest = rest
+with_line n (Says c) rest = record { items = One c ∷ rest.items; end = rest.end }
+with_line n Bad rest = record { items = []; end = BadAt n }
+
+-- the lines from the one of number n on
+abbrev pub script_from : ℕ → List (List ℕ) → Script
+script_from n [] = record { items = []; end = Whole }
+script_from n (line ∷ rest) =
+    if nat_lt 2097152 n then record { items = []; end = TooMany } else with_line n (meaning line) (script_from (n + 1) rest)
+
+-- the script of the bytes
+abbrev pub script : List ℕ → Script
+script bytes = script_from 1 (lines bytes)

@@ -1,0 +1,76 @@
+-- What a run writes: the lines of a script's items, one after another, and a last line.
+use Rattle.std.specs.Prelude.{ℕ, nat_lt, if◌then◌else◌, List, [], ◌∷◌, ◌++◌, length, map, Option, Some, None}
+use Rattle.lama_model.specs.Graph.{Graph}
+use Rattle.lama_model.specs.Row.{row}
+use Rattle.lama_model.specs.Opening.{Opening}
+use Rattle.lama_model.specs.Journal.{reply, graph}
+use Rattle.lama_model.specs.Script.{Item, Script, script}
+use Rattle.lama_model.specs.Script.Item.{One}
+use Rattle.lama_model.specs.Lines.{reply_line, refusal_line, row_line, last_line}
+use Rattle.lama_model.specs.declared.calls.Call.{Call}
+use Rattle.lama_model.specs.declared.calls.Call.TheVariants.{Write as WriteCall, Checkpoint, Look, LookAt}
+use Rattle.lama_model.specs.declared.calls.Entry.{Entry}
+use Rattle.lama_model.specs.declared.commands.Command.{Command}
+use Rattle.lama_model.specs.declared.commands.Command.TheVariants.{Write as Writes, Checkpoint as Checkpoints, Read as Reads}
+use Rattle.lama_model.specs.declared.commands.Read.{Read}
+use Rattle.lama_model.specs.declared.commands.Read.TheVariants.{Row}
+use Rattle.lama_model.specs.declared.answers.Reply.{Reply}
+use Rattle.lama_model.specs.declared.answers.Reply.TheVariants.{Accepted, Count, Snapshot, Kept, Refused}
+use Rattle.lama_model.specs.declared.answers.Refusal.TheVariants.{UnknownVertex}
+
+-- a reading command's call: the newest snapshot, or the one of that number
+abbrev pub look_of : Option ℕ → Call
+look_of None = Look
+look_of (Some k) = LookAt k
+
+-- the calls of a command, made after the journal
+abbrev pub calls_of : Opening → List Entry → Command → List Call
+calls_of o journal (Writes w) = WriteCall w ∷ []
+calls_of o journal Checkpoints = Checkpoint ∷ []
+calls_of o journal (Reads at what) = look_of at ∷ []
+
+abbrev pub entry : ℕ → Call → Entry
+entry caller call = record { caller = caller; call = call }
+
+-- the journal after a command of the caller
+abbrev pub journal_after : Opening → List Entry → ℕ → Command → List Entry
+journal_after o journal caller command = journal ++ map (entry caller) (calls_of o journal command)
+
+-- what is printed of the graph of the number k
+unfoldable pub read_lines : Graph → ℕ → Read → List ℕ
+read_lines g k (Row v) = if nat_lt v g.count then row_line k v (row g v) else refusal_line (UnknownVertex v g.count)
+
+-- what a reading command prints for the reply to its call, after the journal that ends with that call
+abbrev pub reading_lines : Opening → List Entry → Command → Read → Reply → List ℕ
+reading_lines o journal command what (Snapshot k) = read_lines (graph o journal k) k what
+reading_lines o journal command what (Refused r) = reply_line command (Refused r)
+reading_lines o journal command what Accepted = []
+reading_lines o journal command what (Count c) = []
+reading_lines o journal command what (Kept a b) = []
+
+-- what a command of the caller prints, made after the journal
+abbrev pub lines_of : Opening → List Entry → ℕ → Command → List ℕ
+lines_of o journal caller (Writes w) = reply_line (Writes w) (reply o journal (WriteCall w))
+lines_of o journal caller Checkpoints = reply_line Checkpoints (reply o journal Checkpoint)
+lines_of o journal caller (Reads at what) =
+    reading_lines o (journal_after o journal caller (Reads at what)) (Reads at what) what (reply o journal (look_of at))
+
+-- what was printed, and the journal
+pub record Told : Type 0 where
+  pub said : List ℕ
+  pub journal : List Entry
+
+-- the items one after another, made after the journal
+abbrev pub tell : Opening → List Entry → List Item → Told
+tell o journal [] = record { said = []; journal = journal }
+tell o journal (One c ∷ items) =
+    let rest = tell o (journal_after o journal 0 c) items in
+    record { said = lines_of o journal 0 c ++ rest.said; journal = rest.journal }
+
+-- the text of a script that was read so
+abbrev pub text_of : Opening → List Entry → Script → List ℕ
+text_of o journal s = let told = tell o journal s.items in told.said ++ last_line (length told.journal) s.end
+
+-- the text of the script's bytes
+unfoldable pub text : Opening → List ℕ → List ℕ
+text o bytes = text_of o [] (script bytes)

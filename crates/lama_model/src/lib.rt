@@ -1,0 +1,15 @@
+//! The model: graphs as lists of edges, journals of calls, and what each call is answered.
+//!
+//! The definitions are in `specs/`, in words of lists of edges and journals alone. This crate has the
+//! types of the calls and answers that they speak of, and worked examples that are proved by computation.
+#![tactic(auto)]
+
+pub mod adjacency;
+pub mod answers;
+pub mod calls;
+pub mod commands;
+
+pub use adjacency::Rows;
+pub use answers::{Refusal, Reply};
+pub use calls::{Call, Entry, Write};
+pub use commands::{Command, Read};
