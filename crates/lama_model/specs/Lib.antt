@@ -6,3 +6,4 @@ pub mod Weave
 pub mod Script
 pub mod Lines
 pub mod Text
+pub mod Examples

@@ -8,6 +8,7 @@ pub mod adjacency;
 pub mod answers;
 pub mod calls;
 pub mod commands;
+pub mod examples;
 
 pub use adjacency::Rows;
 pub use answers::{Refusal, Reply};

@@ -1,0 +1,68 @@
+//! Worked examples of the definitions, each proved by computing both sides.
+
+ghost use Rattle.std.specs.Prelude.{◌≡◌, ℕ, List, [], ◌∷◌, ◌++◌, codes, Some, None, map, length};
+ghost use Rattle.lama_base.specs.declared.Edge.{Edge};
+ghost use Rattle.lama_model.specs.Graph.{Graph, effect};
+ghost use Rattle.lama_model.specs.Row.{row, graph_of_rows};
+ghost use Rattle.lama_model.specs.Opening.{empty_opening};
+ghost use Rattle.lama_model.specs.Journal.{reply, newest, oldest, floor_at, floor, graph, cut, before_made, standing, begun};
+ghost use Rattle.lama_model.specs.Weave.{weave};
+ghost use Rattle.lama_model.specs.Text.{text, entry};
+ghost use Rattle.lama_model.specs.declared.calls.Write.TheVariants.{Vertices, Add, Remove, Weigh};
+ghost use Rattle.lama_model.specs.declared.calls.Call.TheVariants.{Write as Writes, Checkpoint, Look, LookAt, Install, Retire};
+ghost use Rattle.lama_model.specs.declared.answers.Reply.TheVariants.{Accepted, Count, Snapshot, Kept, Refused};
+ghost use Rattle.lama_model.specs.declared.answers.Refusal.TheVariants.{UnknownVertex, FullVertices, NoSnapshot};
+ghost use Rattle.lama_model.specs.Examples.{busy, edge};
+
+/// A run of the four commands, and the lines that it prints.
+pub fn texts()
+    ensures first { text empty_opening (codes "vertices 3\nadd 0 1\nadd 0 2\ncheckpoint\nrow 0\n")
+        ≡ codes "vertices 3\nsnapshot 1\nrow 1 0 : 2/1 1/1\nend 5\n" }
+    ensures empty { text empty_opening [] ≡ codes "end 0\n" }
+    // A write is read from the next checkpoint on.
+    ensures pending { text empty_opening (codes "vertices 2\ncheckpoint\nadd 0 1\nrow 0\n")
+        ≡ codes "vertices 2\nsnapshot 1\nrow 1 0 :\nend 4\n" }
+    // A bad line ends the run, and what stands after it decides nothing.
+    ensures bad { text empty_opening (codes "# a note\n\nvertices 007 \r\n vertices\tx\nvertices 1\n") ≡ codes "vertices 7\nbad line 4\n" }
+    ensures refused { text empty_opening (codes "vertices 1\nadd 5 6\nadd 0 2\nrow 9\nvertices 4194304") ≡
+        codes "vertices 1\nunknown vertex 5 of 1\nunknown vertex 2 of 1\nunknown vertex 9 of 0\nfull vertices\nend 5\n" }
+{}
+
+/// Three snapshots of two vertices: graphs, numbers, floors and prefixes of their journal.
+pub fn journals()
+    ensures graphs { map (λ k. row (graph empty_opening busy k) 0) (0 ∷ 1 ∷ 2 ∷ 3 ∷ [])
+        ≡ [] ∷ ((1, 5) ∷ []) ∷ ((1, 9) ∷ (1, 9) ∷ []) ∷ [] ∷ [] }
+    ensures numbers { (newest empty_opening busy ∷ oldest empty_opening busy ∷ floor empty_opening busy ∷ []) ≡ 3 ∷ 0 ∷ 1 ∷ [] }
+    // Snapshot 0 keeps its floor, since an install reaches the later ones alone.
+    ensures floors { map (floor_at empty_opening busy) (0 ∷ 1 ∷ 2 ∷ 3 ∷ []) ≡ 0 ∷ 1 ∷ 1 ∷ 1 ∷ [] }
+    // The graph of a number is that of the prefix before its checkpoint.
+    ensures prefixes { map (λ k. length (cut empty_opening busy k)) (1 ∷ 2 ∷ 3 ∷ []) ≡ 2 ∷ 5 ∷ 8 ∷ [] }
+    ensures standing_edges { (standing empty_opening busy).graph.edges ≡ [] }
+{}
+
+/// Replies after that journal, each refusal with what it names.
+pub fn replies()
+    ensures vertices { reply empty_opening busy (Writes (Vertices 3)) ≡ Count 5 }
+    ensures full { reply empty_opening busy (Writes (Vertices 4194303)) ≡ Refused FullVertices }
+    // The first vertex is refused before the second.
+    ensures source_first { reply empty_opening busy (Writes (Add 7 8 1)) ≡ Refused (UnknownVertex 7 2) }
+    ensures target { reply empty_opening busy (Writes (Weigh 1 2 1)) ≡ Refused (UnknownVertex 2 2) }
+    // What removes no edge is accepted all the same.
+    ensures nothing_there { reply empty_opening busy (Writes (Remove 1 1)) ≡ Accepted }
+    ensures checkpoint { reply empty_opening busy Checkpoint ≡ Snapshot 4 }
+    ensures look { reply empty_opening busy Look ≡ Snapshot 3 }
+    ensures look_at { reply empty_opening busy (LookAt 4) ≡ Refused (NoSnapshot 4 0 3) }
+    ensures retire { reply empty_opening busy (Retire 2) ≡ Kept 2 3 }
+    ensures retired { reply empty_opening (busy ++ entry 0 (Retire 2) ∷ []) (Install 1) ≡ Refused (NoSnapshot 1 2 3) }
+{}
+
+/// Three lanes woven by a list of lane numbers, and graphs from rows.
+pub fn weaves_and_rows()
+    ensures woven { weave {A = ℕ} ((4 ∷ 5 ∷ []) ∷ [] ∷ (6 ∷ []) ∷ []) (1 ∷ 3 ∷ 1 ∷ []) ≡ Some ((1, 4) ∷ (3, 6) ∷ (1, 5) ∷ []) }
+    ensures left_over { weave {A = ℕ} ((4 ∷ 5 ∷ []) ∷ []) (1 ∷ []) ≡ None }
+    ensures no_lane { weave {A = ℕ} ((4 ∷ []) ∷ []) (1 ∷ 2 ∷ []) ≡ None }
+    ensures none_next { weave {A = ℕ} ((4 ∷ []) ∷ []) (1 ∷ 1 ∷ []) ≡ None }
+    ensures from_rows { graph_of_rows (((2, 7) ∷ (1, 8) ∷ []) ∷ [] ∷ ((0, 9) ∷ []) ∷ [])
+        ≡ record { count = 3; edges = edge 0 1 8 ∷ edge 0 2 7 ∷ edge 2 0 9 ∷ [] } }
+    ensures newest_first { row (record { count = 2; edges = edge 0 1 5 ∷ edge 1 1 3 ∷ edge 0 0 6 ∷ [] }) 0 ≡ (0, 6) ∷ (1, 5) ∷ [] }
+{}
