@@ -1,7 +1,7 @@
 ghost use Rattle.std.specs.Prelude.{◌≡◌, ◌+◌, ◌%◌, ◌<◌, ◌++◌, ◌==◌, ◌&&◌, [], ◌∷◌, IfOk, if◌then◌else◌, is_ok, length};
 
 use crate::{Edit, VArray};
-use lama_pages::Steps;
+use lama_pages::{PAGE_RECORDS, Steps};
 use std::alloc::{AllocError, Global};
 use std::marker::Model;
 use std::sync::ledger::Ledger;
@@ -38,7 +38,11 @@ impl<T: Copy> Builder<T> {
         ensures items { self.new ≡ (if is_ok result then self.old ++ x ∷ [] else self.old) }
         ensures made { pages.new ≡ pages.old + (if is_ok result && (length self.old % 256 == 0) then 1 else 0) }
     {
-        self.edit.push(x, pages)
+        if self.edit.len() as usize % PAGE_RECORDS == 0 {
+            self.edit.begin_page(x, pages)
+        } else {
+            self.edit.push_in_page(x, pages)
+        }
     }
 
     /// The version with the records pushed. It copies no record and makes no page. Where it is refused, the records

@@ -2,7 +2,7 @@ ghost use Rattle.std.specs.Prelude.{◌≡◌, ℕ, ◌+◌, ◌*◌, ◌/◌, �
 ghost use Rattle.lama_array.specs.Draft.{owns};
 
 use crate::VArray;
-use crate::grow::{pages_for, push_filled};
+use crate::grow::grow;
 use crate::held::Held;
 use lama_pages::{PAGE_RECORDS, Page, Steps};
 use std::alloc::{AllocError, Global};
@@ -46,24 +46,43 @@ impl<T: Copy> Edit<T> {
         }
     }
 
-    // Adds `x` at the end. A new page is the edit's own.
-    pub(crate) fn push<L: Ledger>(&mut self, x: T, pages: &mut Steps<L>) -> Result<(), AllocError>
-        requires { length self.old.items < 67108864 }
+    // Adds `x` at the end, as the first record of a page of its own.
+    pub(crate) fn begin_page<L: Ledger>(
+        &mut self,
+        x: T,
+        pages: &mut Steps<L>,
+    ) -> Result<(), AllocError>
+        requires room { length self.old.items < 67108864 }
+        requires at_edge { length self.old.items % 256 ≡ 0 }
         ensures items { OnOk result (self.new.items ≡ self.old.items ++ x ∷ []) }
-        ensures owned { OnOk result (self.new.owned ≡ (if length self.old.items % 256 == 0 then self.old.owned ++ true ∷ [] else slice_set self.old.owned (length self.old.items / 256) true)) }
+        ensures owned { OnOk result (self.new.owned ≡ self.old.owned ++ true ∷ []) }
         ensures refused { OnErr result (self.new ≡ self.old) }
-        ensures made { pages.new ≡ pages.old + (if is_ok result && (length self.old.items % 256 == 0 || not (owns self.old (length self.old.items / 256))) then 1 else 0) }
+        ensures made { pages.new ≡ pages.old + (if is_ok result then 1 else 0) }
     {
-        let at = self.len as usize % PAGE_RECORDS;
-        if at == 0 {
-            self.held.reserve(1)?;
-            let page = Page::fill(*self.held.allocator(), x, pages)?;
-            self.held.push(Held::Own(page)).unwrap();
-        } else {
-            let tail = &mut self.held[self.len as usize / PAGE_RECORDS];
-            tail.own(pages)?;
-            tail.set(at, x);
-        }
+        self.held.reserve(1)?;
+        let page = Page::fill(*self.held.allocator(), x, pages)?;
+        self.held.push(Held::Own(page)).unwrap();
+        self.len += 1;
+        Ok(())
+    }
+
+    // Adds `x` at the end, in the last page.
+    pub(crate) fn push_in_page<L: Ledger>(
+        &mut self,
+        x: T,
+        pages: &mut Steps<L>,
+    ) -> Result<(), AllocError>
+        requires room { length self.old.items < 67108864 }
+        requires inside { 0 < length self.old.items % 256 }
+        ensures items { OnOk result (self.new.items ≡ self.old.items ++ x ∷ []) }
+        ensures owned { OnOk result (self.new.owned ≡ slice_set self.old.owned (length self.old.items / 256) true) }
+        ensures refused { OnErr result (self.new ≡ self.old) }
+        ensures made { pages.new ≡ pages.old + (if is_ok result && not (owns self.old (length self.old.items / 256)) then 1 else 0) }
+    {
+        let i = self.len as usize;
+        let tail = &mut self.held[i / PAGE_RECORDS];
+        tail.own(pages)?;
+        tail.set(i % PAGE_RECORDS, x);
         self.len += 1;
         Ok(())
     }
@@ -115,19 +134,11 @@ impl<T: Copy> Edit<T> {
         ensures refused { OnErr result (self.new ≡ self.old) }
         ensures made { pages.new ≤ pages.old + 2 }
     {
-        let filled = self.len as usize % PAGE_RECORDS;
-        let old_pages = self.held.len();
-        let new_len = self.len + n;
-        push_filled(&mut self.held, pages_for(new_len) - old_pages, x, pages)?;
-        if n > 0 && filled > 0 {
-            let tail = &mut self.held[old_pages - 1];
-            if tail.own(pages).is_err() {
-                self.held.truncate(old_pages);
-                return Err(AllocError);
-            }
-            tail.fill_from(filled, x);
+        if n == 0 {
+            return Ok(());
         }
-        self.len = new_len;
+        grow(&mut self.held, self.len, n, x, pages)?;
+        self.len += n;
         Ok(())
     }
 

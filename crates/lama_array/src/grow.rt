@@ -1,7 +1,8 @@
 // Pages at the end of an edit's list of pages.
-ghost use Rattle.std.specs.Prelude.{◌≡◌, ◌+◌, ◌*◌, ◌/◌, ◌<◌, ◌≤◌, ◌++◌, [], ◌∷◌, OnErr, OnOk, false, if◌then◌else◌, is_ok, length, map, replicate, take, vec_len};
+ghost use Rattle.std.specs.Prelude.{◌≡◌, ℕ, ◌+◌, ◌-◌, ◌*◌, ◌/◌, ◌<◌, ◌≤◌, ◌++◌, [], ◌∷◌, OnErr, OnOk, false, if◌then◌else◌, is_ok, length, map, replicate, slice_index_or, slice_set, take, true, vec_len};
 ghost use Rattle.std.specs.Arc.{arc_value};
 ghost use Rattle.lama_array.specs.Held.{is_own, records_of};
+ghost use Rattle.lama_array.specs.Paged.{IsPaged, joined};
 
 use crate::held::Held;
 use lama_pages::{PAGE_RECORDS, Page, Steps};
@@ -71,4 +72,55 @@ pub(crate) fn push_filled<T: Copy, L: Ledger>(
     let alloc = *held.allocator();
     let page = Arc::new(alloc, Page::fill(alloc, x, pages)?)?;
     push_times(held, &page, count)
+}
+
+// Writes `x` over the records from `from` on of the page at `at`, which becomes the edit's own.
+fn fill_tail<T: Copy, L: Ledger>(
+    held: &mut Vec<Held<T>>,
+    at: usize,
+    from: usize,
+    x: T,
+    pages: &mut Steps<L>,
+) -> Result<(), AllocError>
+    requires at_page { at < vec_len held.old }
+    requires within { from < 256 }
+    ensures records { OnOk result (map records_of held.new.items ≡ slice_set (map records_of held.old.items) at (take from (slice_index_or (map records_of held.old.items) at []) ++ replicate (256 - from) x)) }
+    ensures owned { OnOk result (map is_own held.new.items ≡ slice_set (map is_own held.old.items) at true) }
+    ensures refused { OnErr result (held.new.items ≡ held.old.items) }
+    ensures made { pages.new ≤ pages.old + 1 }
+{
+    let tail = &mut held[at];
+    tail.own(pages)?;
+    tail.fill_from(from, x);
+    Ok(())
+}
+
+// `n` records `x` after the first `len`. Where it is refused, the list is as before.
+pub(crate) fn grow<T: Copy, L: Ledger>(
+    held: &mut Vec<Held<T>>,
+    len: u32,
+    n: u32,
+    x: T,
+    pages: &mut Steps<L>,
+) -> Result<(), AllocError>
+    requires some { 0 < n }
+    requires room { len + n ≤ 67108864 }
+    requires paged { IsPaged len (map records_of held.old.items) }
+    ensures paged { OnOk result (IsPaged (len + n) (map records_of held.new.items)) }
+    ensures items { OnOk result (take (len + n) (joined (map records_of held.new.items)) ≡ take len (joined (map records_of held.old.items)) ++ replicate n x) }
+    ensures still_owned { OnOk result ((k : ℕ) → slice_index_or (map is_own held.old.items) k false ≡ true → slice_index_or (map is_own held.new.items) k false ≡ true) }
+    ensures refused { OnErr result (held.new.items ≡ held.old.items) }
+    ensures made { pages.new ≤ pages.old + 2 }
+{
+    let old_pages = held.len();
+    let filled = len as usize % PAGE_RECORDS;
+    push_filled(held, pages_for(len + n) - old_pages, x, pages)?;
+    if filled == 0 {
+        return Ok(());
+    }
+    if fill_tail(held, old_pages - 1, filled, x, pages).is_err() {
+        held.truncate(old_pages);
+        return Err(AllocError);
+    }
+    Ok(())
 }

@@ -17,7 +17,7 @@ pub(crate) enum Held<T: Copy> {
 
 // Writes `x` over the records from `from` on.
 fn fill_from<T: Copy>(page: &mut Page<T>, from: usize, x: T)
-    requires { from ≤ 256 }
+    requires { from < 256 }
     ensures { page.new ≡ take from page.old ++ replicate (256 - from) x }
 {
     for i in from..PAGE_RECORDS {
@@ -64,7 +64,7 @@ impl<T: Copy> Held<T> {
 
     pub(crate) fn fill_from(&mut self, from: usize, x: T)
         requires own { is_own self.old ≡ true }
-        requires within { from ≤ 256 }
+        requires within { from < 256 }
         ensures records { records_of self.new ≡ take from (records_of self.old) ++ replicate (256 - from) x }
         ensures own { is_own self.new ≡ true }
     {
