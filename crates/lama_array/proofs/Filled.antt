@@ -1,5 +1,5 @@
 -- A page of w records that is filled from a place on.
-use Rattle.std.proofs.Common.{◌≡◌, ℕ, zero, suc, ◌+◌, ◌-◌, ◌<◌, ◌≤◌, List, [], ◌∷◌, ◌++◌, length, take, drop, set, get_or, replicate, refl, sym, ◌∙◌, ap, arith, length-append, append_assoc}
+use Rattle.std.proofs.Common.{◌≡◌, ℕ, ◌+◌, ◌-◌, ◌<◌, ◌≤◌, List, [], ◌∷◌, ◌++◌, length, take, drop, set, get_or, replicate, sym, ◌∙◌, ap, arith, length-append, append_assoc}
 use Rattle.std.proofs.lemmas.List.{append-nil, drop_all, drop_more, length-drop, length-take, length-replicate, replicate_more, set_at}
 
 -- xs with x from `from` up to i
@@ -21,11 +21,11 @@ module _ {A : Type 0} (w from i : ℕ) (x : A) (xs : List A) (above : from ≤ i
       let more : drop i xs ≡ get_or xs i x ∷ drop (i + 1) xs = drop_more xs i x (omega (arith, all)) in
       let next : i - from + 1 ≡ i + 1 - from = omega arith in
       let grown : front ++ x ∷ [] ≡ take from xs ++ replicate (i + 1 - from) x =
-          append_assoc (take from xs) (replicate (i - from) x) (x ∷ []) ∙ ap (λ t. take from xs ++ t) (replicate_more (i - from) x ∙ ap (λ k. replicate k x) next) in
+      append_assoc (take from xs) (replicate (i - from) x) (x ∷ []) ∙ ap (λ t. take from xs ++ t) (replicate_more (i - from) x ∙ ap (λ k. replicate k x) next) in
       ap (λ t. set (front ++ t) i x) more
-          ∙ set_at front (get_or xs i x) (drop (i + 1) xs) x i at
-          ∙ sym (append_assoc front (x ∷ []) (drop (i + 1) xs))
-          ∙ ap (λ t. t ++ drop (i + 1) xs) grown
+      ∙ set_at front (get_or xs i x) (drop (i + 1) xs) x i at
+      ∙ sym (append_assoc front (x ∷ []) (drop (i + 1) xs))
+      ∙ ap (λ t. t ++ drop (i + 1) xs) grown
 
   pub filled-all : length xs ≤ i → filled from i x xs ≡ take from xs ++ replicate (i - from) x
   filled-all short = ap (λ t. (take from xs ++ replicate (i - from) x) ++ t) (drop_all i xs short) ∙ append-nil (take from xs ++ replicate (i - from) x)

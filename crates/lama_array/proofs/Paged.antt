@@ -1,8 +1,8 @@
 -- Lists in pages of w records: what a read, a write and more pages mean for the list.
-use Rattle.std.proofs.Common.{◌≡◌, ℕ, zero, suc, ◌+◌, ◌-◌, ◌*◌, ◌/◌, ◌%◌, ◌<◌, ◌≤◌, List, [], ◌∷◌, ◌++◌, length, get_or, take, set, map, replicate, refl, sym, ◌∙◌, ap, subst, arith, length-append, append_assoc}
+use Rattle.std.proofs.Common.{◌≡◌, ℕ, zero, suc, ◌+◌, ◌-◌, ◌*◌, ◌/◌, ◌%◌, ◌<◌, ◌≤◌, List, [], ◌∷◌, ◌++◌, length, get_or, take, set, map, replicate, refl, sym, ◌∙◌, ap, arith, length-append, append_assoc}
 use Rattle.std.specs.Prelude.{All}
-use Rattle.std.proofs.lemmas.List.{get_or-map, get_or-take, map-set, length-map, length-set, get_or-set_same, get_or_append_left, get_or-append-add, set-append_left, set-append_right, length-take, length-replicate, replicate-append-replicate, take-replicate, take_all}
-use Rattle.std.proofs.lemmas.List.Elements.{All-set, All-get_or}
+use Rattle.std.proofs.lemmas.List.{get_or-map, get_or-take, map-set, length-map, length-set, get_or_append_left, get_or-append-add, set-append_left, set-append_right, length-take, replicate-append-replicate}
+use Rattle.std.proofs.lemmas.List.Elements.{All-set}
 use Rattle.std.proofs.Math.Seq.{take-set-lt}
 use Rattle.lama_array.specs.Paged.{joined, IsPaged}
 
@@ -10,10 +10,10 @@ use Rattle.lama_array.specs.Paged.{joined, IsPaged}
 abbrev pub AreWhole : {A : Type 0} → ℕ → List (List A) → Type 0
 AreWhole w ps = All (λ p. length p ≡ w) ps
 
-whole-tail : {A : Type 0} (w : ℕ) (p : List A) (ps : List (List A)) → AreWhole w (p ∷ ps) → AreWhole w ps
+pub whole-tail : {A : Type 0} (w : ℕ) (p : List A) (ps : List (List A)) → AreWhole w (p ∷ ps) → AreWhole w ps
 whole-tail w p ps h = λ k d l. h (suc k) d (omega arith)
 
-whole-head : {A : Type 0} (w : ℕ) (p : List A) (ps : List (List A)) → AreWhole w (p ∷ ps) → length p ≡ w
+pub whole-head : {A : Type 0} (w : ℕ) (p : List A) (ps : List (List A)) → AreWhole w (p ∷ ps) → length p ≡ w
 whole-head w p ps h = h 0 [] (omega arith)
 
 pub joined-append : {A : Type 0} (ps qs : List (List A)) → joined (ps ++ qs) ≡ joined ps ++ joined qs
@@ -39,7 +39,7 @@ get_or-joined w (p ∷ ps) zero r e d h l m =
 get_or-joined w (p ∷ ps) (suc q) r e d h l m =
     let at : w * suc q + r ≡ length p + (w * q + r) = omega (arith, whole-head w p ps h) in
     ap (λ k. get_or (p ++ joined ps) k d) at ∙ get_or-append-add p (joined ps) (w * q + r) d
-        ∙ get_or-joined w ps q r e d (whole-tail w p ps h) (omega arith) m
+    ∙ get_or-joined w ps q r e d (whole-tail w p ps h) (omega arith) m
 
 pub set-joined : {A : Type 0} (w : ℕ) (ps : List (List A)) (q r : ℕ) (e : List A) (x : A) → AreWhole w ps → q < length ps → r < w → set (joined ps) (w * q + r) x ≡ joined (set ps q (set (get_or ps q e) r x))
 set-joined w [] q r e x h l m = absurd (omega arith)
@@ -50,10 +50,10 @@ set-joined w (p ∷ ps) (suc q) r e x h l m =
     let past : length p ≤ w * suc q + r = omega (arith, whole-head w p ps h) in
     let at : w * suc q + r - length p ≡ w * q + r = omega (arith, whole-head w p ps h) in
     set-append_right p (joined ps) (length p) (w * suc q + r) x refl past
-        ∙ ap (λ k. p ++ set (joined ps) k x) at
-        ∙ ap (λ t. p ++ t) (set-joined w ps q r e x (whole-tail w p ps h) (omega arith) m)
+    ∙ ap (λ k. p ++ set (joined ps) k x) at
+    ∙ ap (λ t. p ++ t) (set-joined w ps q r e x (whole-tail w p ps h) (omega arith) m)
 
-take_past : {A : Type 0} (xs ys : List A) (n : ℕ) → take (length xs + n) (xs ++ ys) ≡ xs ++ take n ys
+pub take_past : {A : Type 0} (xs ys : List A) (n : ℕ) → take (length xs + n) (xs ++ ys) ≡ xs ++ take n ys
 take_past [] ys n =
     let at : 0 + n ≡ n = omega arith in
     ap (λ k. take k ys) at
@@ -81,7 +81,7 @@ module _ {H A : Type 0} (f : H → List A) (table : List H) (len i : ℕ) (paged
   read-at h page r at is read =
       let same : get_or (map f table) (i / 256) page ≡ page = get_or-map f table (i / 256) h page in_table ∙ ap f (sym at) ∙ sym is in
       let whole : get_or (joined (map f table)) (256 * (i / 256) + i % 256) r ≡ get_or (get_or (map f table) (i / 256) page) (i % 256) r =
-          get_or-joined 256 (map f table) (i / 256) (i % 256) page r paged.whole (omega (arith, in_table, length-map table f)) in_page in
+      get_or-joined 256 (map f table) (i / 256) (i % 256) page r paged.whole (omega (arith, in_table, length-map table f)) in_page in
       read ∙ ap (λ p. get_or p (i % 256) r) (sym same) ∙ sym whole ∙ ap (λ k. get_or (joined (map f table)) k r) place ∙ sym (get_or-take len (joined (map f table)) i r within)
 
   page-at : (h : H) → h ≡ get_or table (i / 256) h → get_or (map f table) (i / 256) (f h) ≡ f h
@@ -97,7 +97,7 @@ module _ {H A : Type 0} (f : H → List A) (table : List H) (len i : ℕ) (paged
       rw (map-set f table (i / 256) h) (record {
         whole = All-set (λ p. length p ≡ 256) (map f table) (i / 256) (f h) whole paged.whole;
         covered = omega (arith, paged.covered, length-set (map f table) (i / 256) (f h));
-        tight = omega (arith, paged.tight, length-set (map f table) (i / 256) (f h))
+        tight = omega (arith, paged.tight, length-set (map f table) (i / 256) (f h));
       })
 
   pub write-paged : (h h' : H) (x : A) → h ≡ get_or table (i / 256) h → f h' ≡ set (f h) (i % 256) x → IsPaged len (map f (set table (i / 256) h'))
@@ -107,7 +107,7 @@ module _ {H A : Type 0} (f : H → List A) (table : List H) (len i : ℕ) (paged
   write-at h h' x at is =
       let page : f h' ≡ set (get_or (map f table) (i / 256) (f h)) (i % 256) x = is ∙ ap (λ p. set p (i % 256) x) (sym (page-at h at)) in
       let whole : set (joined (map f table)) (256 * (i / 256) + i % 256) x ≡ joined (set (map f table) (i / 256) (set (get_or (map f table) (i / 256) (f h)) (i % 256) x)) =
-          set-joined 256 (map f table) (i / 256) (i % 256) (f h) x paged.whole (omega (arith, in_table, length-map table f)) in_page in
+      set-joined 256 (map f table) (i / 256) (i % 256) (f h) x paged.whole (omega (arith, in_table, length-map table f)) in_page in
       ap (λ ps. take len (joined ps)) (map-set f table (i / 256) h' ∙ ap (λ p. set (map f table) (i / 256) p) page)
-          ∙ ap (λ t. take len t) (sym whole ∙ ap (λ k. set (joined (map f table)) k x) place)
-          ∙ take-set-lt len (joined (map f table)) i x within
+      ∙ ap (λ t. take len t) (sym whole ∙ ap (λ k. set (joined (map f table)) k x) place)
+      ∙ take-set-lt len (joined (map f table)) i x within

@@ -61,7 +61,7 @@ impl<T: Copy> Edit<T> {
     {
         self.held.reserve(1)?;
         let page = Page::fill(*self.held.allocator(), x, pages)?;
-        self.held.push(Held::Own(page)).unwrap();
+        self.held.push(Held::Own(page))?;
         self.len += 1;
         Ok(())
     }

@@ -118,9 +118,11 @@ pub(crate) fn grow<T: Copy, L: Ledger>(
     if filled == 0 {
         return Ok(());
     }
-    if fill_tail(held, old_pages - 1, filled, x, pages).is_err() {
-        held.truncate(old_pages);
-        return Err(AllocError);
+    match fill_tail(held, old_pages - 1, filled, x, pages) {
+        Ok(()) => Ok(()),
+        Err(refused) => {
+            held.truncate(old_pages);
+            Err(refused)
+        }
     }
-    Ok(())
 }

@@ -7,5 +7,5 @@ abbrev pub invariant-loop : goal.invariant-loop
 invariant-loop g l = record {
   records : map records_of l.held.items ≡ map records_of l.initial.held.items ++ replicate l.counter (arc_value l.page);
   owned : map is_own l.held.items ≡ map is_own l.initial.held.items ++ replicate l.counter false;
-  first : take (length l.initial.held.items) l.held.items ≡ l.initial.held.items
+  first : take (length l.initial.held.items) l.held.items ≡ l.initial.held.items;
 }
