@@ -6,3 +6,6 @@ mod steps;
 
 pub use page::{PAGE_RECORDS, Page};
 pub use steps::Steps;
+
+#[cfg(test)]
+mod tests;

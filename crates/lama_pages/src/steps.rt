@@ -44,32 +44,3 @@ impl<L: Ledger> Steps<L> {
         self.book.add(&mut self.share, 1);
     }
 }
-
-#[cfg(test)]
-mod tests {
-    use super::*;
-    use std::marker::Brand;
-    use std::test::Fail;
-
-    fn count_once<L: Ledger>(steps: &mut Steps<L>)
-        ensures { steps.new ≡ steps.old + 1 }
-    {
-        steps.tick();
-    }
-
-    // Counts in a ledger of its own, which the caller opens.
-    fn count_from<L: Ledger>(blank: Blank)
-        requires name { blank.name ≡ L.name }
-        requires parts { blank.parts ≡ L.parts }
-        requires one { blank.parts ≡ 1 }
-    {
-        let mut steps = Steps::<L>::open(blank);
-        count_once(&mut steps);
-    }
-
-    #[test]
-    fn a_caller_that_counts_nothing(_rt: HostRuntime) -> Result<(), Fail> {
-        count_from::<Brand>(Blank::new(1));
-        Ok(())
-    }
-}
