@@ -1,0 +1,4 @@
+pub mod Filled
+pub mod Grown
+pub mod Paged
+pub mod Pushed

@@ -1,0 +1,6 @@
+use Rattle.std.proofs.Common.{◌∙◌, sym, ap, length}
+use Rattle.lama_array.proofs.Paged.{length-kept}
+use Rattle.lama_array.proofs.version.VArray.len.Goals as goal
+
+pub returns : goal.returns
+returns g c = sym (length-kept _ _ c.self.invariant) ∙ ap length c.self.view_is

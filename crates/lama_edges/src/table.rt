@@ -1,0 +1,160 @@
+ghost use Rattle.std.specs.Prelude.{◌≡◌, ◌+◌, ◌/◌, ◌<◌, ◌≤◌, ◌++◌, All, IfOk, OnOk, Some, length, slice_get};
+ghost use Rattle.lama_edges.specs.Table.{fragment_slots, table_slots, HasTail};
+
+use crate::records::{Fragment, Slot};
+use lama_array::{Builder, VArray};
+use lama_pages::Steps;
+use std::alloc::{AllocError, Global};
+use std::marker::Model;
+use std::sync::ledger::Ledger;
+
+/// The edge table of one level: fragments of adjacency lists, one after another. A contract sees it as the list of its
+/// slots.
+///
+/// It never changes. It takes a page for each 256 slots.
+#[derive(Drop)]
+pub struct EdgeTable {
+    slots: VArray<Slot>,
+}
+
+impl Model for EdgeTable {
+    ghost use Rattle.std.specs.Prelude.{List};
+    ghost use Rattle.lama_edges.specs.declared.records.Slot.{Slot};
+
+    ghost Value = { List Slot };
+
+    ghost view = { λ table. table.slots };
+}
+
+impl EdgeTable {
+    /// The table of these fragments, in their order: for each its targets as `Edge` slots, and then its tail.
+    ///
+    /// The time is by the number of slots, each of which is written once. The only error is want of memory, and then
+    /// the pages that were made are given back.
+    pub fn build<L: Ledger>(
+        alloc: Global,
+        fragments: &[Fragment],
+        pages: &mut Steps<L>,
+    ) -> Result<EdgeTable, AllocError>
+        requires tails { All HasTail fragments.now }
+        requires room { length (table_slots fragments.now) ≤ 67108864 }
+        ensures slots { IfOk result (λ table. table ≡ table_slots fragments.now) }
+        ensures made { OnOk result
+            (pages.new ≡ pages.old + (length (table_slots fragments.now) + 255) / 256) }
+        ensures at_most { pages.new ≤ pages.old + (length (table_slots fragments.now) + 255) / 256 }
+    {
+        let mut slots = Builder::new(alloc);
+        for fragment in fragments {
+            push_fragment(&mut slots, fragment, pages)?;
+        }
+        Ok(EdgeTable {
+            slots: slots.finish()?,
+        })
+    }
+
+    /// How many slots the table has, tails among them.
+    pub fn len(&self) -> u32
+        ensures { result ≡ length self.now }
+    {
+        self.slots.len()
+    }
+
+    /// The slot at place `i`, counted from 0, by two dependent loads. It takes no memory.
+    pub fn slot(&self, i: u32) -> Slot
+        requires { i < length self.now }
+        ensures { slice_get self.now i ≡ Some result }
+    {
+        self.slots.get(i)
+    }
+}
+
+// Adds the slots of a fragment at the end.
+fn push_fragment<L: Ledger>(
+    slots: &mut Builder<Slot>,
+    fragment: &Fragment,
+    pages: &mut Steps<L>,
+) -> Result<(), AllocError>
+    requires { length slots.old + length (fragment_slots fragment.now) ≤ 67108864 }
+    ensures ok { OnOk result (slots.new ≡ slots.old ++ fragment_slots fragment.now) }
+    ensures made { OnOk result
+        (pages.new + (length slots.old + 255) / 256 ≡ pages.old + (length slots.new + 255) / 256) }
+    ensures at_most { pages.new + (length slots.old + 255) / 256
+        ≤ pages.old + (length slots.old + length (fragment_slots fragment.now) + 255) / 256 }
+{
+    for &target in &fragment.targets {
+        slots.push(Slot::Edge { target }, pages)?;
+    }
+    slots.push(fragment.tail, pages)
+}
+
+#[cfg(test)]
+mod tests {
+    use super::*;
+    use std::marker::Brand;
+    use std::sync::ledger::Blank;
+    use std::test::Fail;
+
+    // Compiles only at a type that threads may pass on and share.
+    fn require_shared<T: Send + Sync>() {}
+
+    // A table of two fragments. Its contract, which is proved, counts the page: exactly one.
+    fn two_fragments<L: Ledger>(
+        alloc: Global,
+        pages: &mut Steps<L>,
+    ) -> Result<EdgeTable, AllocError>
+        ensures slots { IfOk result (λ table. length table ≡ 5) }
+        ensures made { OnOk result (pages.new ≡ pages.old + 1) }
+    {
+        let first = Fragment {
+            targets: vec![in alloc; 2, 1]?,
+            tail: Slot::End,
+        };
+        let second = Fragment {
+            targets: vec![in alloc; 5]?,
+            tail: Slot::Next {
+                level: 0,
+                offset: 0,
+                len: 2,
+            },
+        };
+        let fragments = vec![in alloc; first, second]?;
+        EdgeTable::build(alloc, &fragments, pages)
+    }
+
+    // The same, with a counter of its own.
+    fn two_fragments_counted<L: Ledger>(
+        alloc: Global,
+        blank: Blank,
+    ) -> Result<EdgeTable, AllocError>
+        requires name { blank.name ≡ L.name }
+        requires parts { blank.parts ≡ L.parts }
+        requires one { blank.parts ≡ 1 }
+        ensures { IfOk result (λ table. length table ≡ 5) }
+    {
+        let mut pages = Steps::<L>::open(blank);
+        two_fragments(alloc, &mut pages)
+    }
+
+    #[test]
+    fn each_fragment_is_its_targets_and_then_its_tail(rt: HostRuntime) -> Result<(), Fail> {
+        let table = two_fragments_counted::<Brand>(rt.alloc(), Blank::new(1))?;
+        assert_eq!(rt; table.len(), 5);
+        assert_eq!(rt; table.slot(0), Slot::Edge { target: 2 });
+        assert_eq!(rt; table.slot(1), Slot::Edge { target: 1 });
+        assert_eq!(rt; table.slot(2), Slot::End);
+        assert_eq!(rt; table.slot(3), Slot::Edge { target: 5 });
+        let older = Slot::Next {
+            level: 0,
+            offset: 0,
+            len: 2,
+        };
+        assert_eq!(rt; table.slot(4), older);
+        Ok(())
+    }
+
+    #[test]
+    fn threads_may_share_a_table(_rt: HostRuntime) -> Result<(), Fail> {
+        require_shared::<EdgeTable>();
+        Ok(())
+    }
+}
