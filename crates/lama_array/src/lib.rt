@@ -10,3 +10,6 @@ mod version;
 pub use builder::Builder;
 pub use edit::Edit;
 pub use version::VArray;
+
+#[cfg(test)]
+mod tests;
