@@ -1,6 +1,6 @@
 -- What a copied piece says of the bytes that a source has left.
-use Rattle.std.proofs.Common.{◌≡◌, ◌∙◌, ◌+◌, ◌<◌, ◌≤◌, ◌++◌, ℕ, List, [], ◌∷◌, take, drop, length, min, max, arith, sym, refl, Some}
-use Rattle.std.proofs.lemmas.List.{drop-drop, take-append-drop, take-append-le, length-take, length-append, length-take-le}
+use Rattle.std.proofs.Common.{◌≡◌, ◌+◌, ◌≤◌, ◌++◌, ℕ, List, [], take, drop, length, min, arith, sym, refl, Some}
+use Rattle.std.proofs.lemmas.List.{drop-drop, take-append-drop, take-append-le}
 use Rattle.std.proofs.lemmas.Grind.{common_steps}
 use Rattle.lama_base.specs.Bytes.{Moves, Gives}
 use Rattle.lama_outside.specs.Memory.{moved}

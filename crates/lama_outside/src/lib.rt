@@ -9,7 +9,6 @@ mod sure;
 mod turns;
 
 use lama_base::Gate;
-
 pub use mem::{MemSink, MemSource};
 pub use standard::{StdSink, StdSource};
 pub use sure::{SureSink, SureSource};
@@ -21,3 +20,6 @@ pub struct NoGate;
 impl Gate for NoGate {
     fn reach(&self, _point: u32, _piece: u32) {}
 }
+
+#[cfg(test)]
+mod tests;

@@ -24,11 +24,11 @@ impl Model for MemSource {
     ghost Value = { Memory };
 
     ghost view = { λ m. record {
-        bytes = m.source.bytes;
-        most = m.source.most;
-        failing = m.turns.failing.items;
-        calls = m.turns.calls;
-        faults = m.turns.faults
+      bytes = m.source.bytes;
+      most = m.source.most;
+      failing = m.turns.failing.items;
+      calls = m.turns.calls;
+      faults = m.turns.faults;
     } };
 }
 
@@ -110,11 +110,11 @@ impl Model for MemSink {
     ghost Value = { Memory };
 
     ghost view = { λ m. record {
-        bytes = m.sink.bytes;
-        most = m.sink.most;
-        failing = m.turns.failing.items;
-        calls = m.turns.calls;
-        faults = m.turns.faults
+      bytes = m.sink.bytes;
+      most = m.sink.most;
+      failing = m.turns.failing.items;
+      calls = m.turns.calls;
+      faults = m.turns.faults;
     } };
 }
 

@@ -9,6 +9,7 @@ use std::marker::Model;
 /// Standard input, with no buffer of its own. A contract sees how many reads have failed.
 ///
 /// Every error of the system counts as a failed read, an interruption too.
+#[derive(Drop)]
 pub struct StdSource {
     stdin: Stdin,
     faults: u64,
@@ -54,6 +55,7 @@ impl Source for StdSource {
 ///
 /// Every error of the system counts as a failed write, an interruption too, and so does a write that
 /// takes nothing of a piece that is not empty.
+#[derive(Drop)]
 pub struct StdSink {
     stdout: Stdout,
     faults: u64,

@@ -1,4 +1,4 @@
-use Rattle.std.proofs.Common.{◌≡◌, ◌∙◌, ℕ, Bool, true, false, IsTrue, Result, Err, IfErr, sym, ap}
+use Rattle.std.proofs.Common.{◌≡◌, ◌∙◌, ℕ, Bool, false, IsTrue, Result, Err, IfErr, sym, ap}
 use Rattle.std.proofs.lemmas.Result.{IfErr-at_err}
 use Rattle.lama_base.specs.declared.outside.SinkFault.{SinkFault}
 use Rattle.lama_base.specs.declared.outside.SinkFault.TheVariants.{Failed, NoMemory}
