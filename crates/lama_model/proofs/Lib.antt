@@ -1,0 +1,4 @@
+pub mod PackedLemmas
+pub mod EdgeLemmas
+pub mod FillLemmas
+pub mod PlainLemmas
