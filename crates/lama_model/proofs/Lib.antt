@@ -2,3 +2,4 @@ pub mod PackedLemmas
 pub mod EdgeLemmas
 pub mod FillLemmas
 pub mod PlainLemmas
+pub mod ViewLemmas
