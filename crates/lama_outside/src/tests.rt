@@ -77,9 +77,14 @@ fn a_caller_that_sees_the_bound_alone_reads_on(rt: HostRuntime) -> Result<(), Fa
     Ok(())
 }
 
+/// Threads may reach this gate together.
+fn reach_shared<G: Gate + Sync>(gate: &G) {
+    gate.reach(1, 0);
+}
+
 #[test]
 fn standard_streams_take_and_give(rt: HostRuntime) {
     assert_eq!(rt; StdSource::new(&rt).read(&mut []), Ok(0));
     assert_eq!(rt; StdSink::new(&rt).write(b"ok\n"), Ok(3));
-    NoGate.reach(1, 0);
+    reach_shared(&NoGate);
 }
