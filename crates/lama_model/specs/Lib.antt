@@ -7,3 +7,4 @@ pub mod Script
 pub mod Lines
 pub mod Text
 pub mod Examples
+pub mod Packed

@@ -9,8 +9,10 @@ pub mod answers;
 pub mod calls;
 pub mod commands;
 pub mod examples;
+pub mod plain_rows;
 
 pub use adjacency::Rows;
 pub use answers::{Refusal, Reply};
 pub use calls::{Call, Entry, Write};
 pub use commands::{Command, Read};
+pub use plain_rows::PlainRows;

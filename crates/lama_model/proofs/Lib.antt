@@ -1,0 +1,5 @@
+pub mod PackedLemmas
+pub mod EdgeLemmas
+pub mod FillLemmas
+pub mod PlainLemmas
+pub mod ViewLemmas
