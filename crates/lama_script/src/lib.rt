@@ -5,6 +5,8 @@ mod grammar;
 pub mod item;
 pub mod parser;
 pub mod printers;
+#[cfg(test)]
+mod tests;
 
 pub use item::{Item, ScriptFault};
 pub use lama_model::{Command, Read};
