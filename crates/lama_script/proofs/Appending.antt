@@ -1,0 +1,27 @@
+-- Texts that are appended piece by piece.
+use Rattle.std.proofs.Common.{◌≡◌, sym, ap, ◌∙◌, ℕ, List, ◌++◌, Result, Ok, Err, OnOk, append_assoc, codes, decimal}
+use Rattle.lama_model.specs.Lines.{refusal_line}
+use Rattle.lama_model.specs.declared.answers.Refusal.TheVariants.{UnknownVertex, NoSnapshot}
+
+-- a piece after what was appended before
+pub appended : (old front middle back new : List ℕ) → middle ≡ old ++ front → new ≡ middle ++ back → new ≡ old ++ (front ++ back)
+appended old front middle back new m n = n ∙ ap (λ l. l ++ back) m ∙ append_assoc old front back
+
+-- the last piece, which may be refused
+pub appended_last : {T E : Type 0} (r : Result T E) (old front middle back new whole : List ℕ) →
+    middle ≡ old ++ front → whole ≡ front ++ back → OnOk r (new ≡ middle ++ back) → OnOk r (new ≡ old ++ whole)
+appended_last (Ok x) old front middle back new whole m w n = appended old front middle back new m n ∙ ap (λ l. old ++ l) (sym w)
+appended_last (Err e) old front middle back new whole m w n = n
+
+in_pairs : (a b c d e f g : List ℕ) → (((((a ++ b) ++ c) ++ d) ++ e) ++ f) ++ g ≡ (((a ++ b) ++ (c ++ d)) ++ (e ++ f)) ++ g
+in_pairs a b c d e f g = simp append_assoc
+
+pub unknown-pieces : (vertex count : ℕ) → refusal_line (UnknownVertex vertex count) ≡
+    ((codes "unknown vertex " ++ decimal vertex) ++ (codes " of " ++ decimal count)) ++ codes "\n"
+unfolding refusal_line
+unknown-pieces vertex count = simp append_assoc
+
+pub missing-pieces : (asked oldest newest : ℕ) → refusal_line (NoSnapshot asked oldest newest) ≡
+    (((codes "no snapshot " ++ decimal asked) ++ (codes " of " ++ decimal oldest)) ++ (codes " " ++ decimal newest)) ++ codes "\n"
+unfolding refusal_line
+missing-pieces asked oldest newest = in_pairs (codes "no snapshot ") (decimal asked) (codes " of ") (decimal oldest) (codes " ") (decimal newest) (codes "\n")

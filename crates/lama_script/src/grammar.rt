@@ -1,0 +1,166 @@
+//! The grammar of a script's lines: words, numbers and commands.
+
+ghost use Rattle.std.specs.Prelude.{◌≡◌, [], ◌∷◌, not, length, MatchOption, IsTrue, ◌↔◌};
+ghost use Rattle.std.specs.List.{position};
+ghost use Rattle.lama_model.specs.Script.{words, number, vertices_command, add_command, checkpoint_command, row_command, command_of, meaning, without_return};
+ghost use Rattle.lama_model.specs.Script as grammar;
+ghost use Rattle.lama_script.specs.Parsing.{answer_to};
+
+use crate::item::{Item, ScriptFault};
+use lama_base::limits::MAX_LINE_BYTES;
+use lama_model::{Command, Read, Write};
+
+/// What a line is answered that is given without its line feed and has that number.
+#[tactic(auto, unfolding(lama_model::specs::Script::meaning))]
+pub fn read_line(line_number: u32, line: &[u8]) -> Result<Option<Item>, ScriptFault>
+    ensures { result ≡ answer_to line_number (meaning line.now) }
+{
+    if line.len() > MAX_LINE_BYTES {
+        return Err(ScriptFault::BadLine { line: line_number });
+    }
+    let Some((word, args)) = first_word(before_return(line)) else {
+        return Ok(None);
+    };
+    if is_comment(word) {
+        return Ok(None);
+    }
+    match command(word, args) {
+        Some(command) => Ok(Some(Item::One(command))),
+        None => Err(ScriptFault::BadLine { line: line_number }),
+    }
+}
+
+/// The line without the carriage return at its end.
+fn before_return(line: &[u8]) -> &[u8]
+    ensures { result.now ≡ without_return line.now }
+{
+    if line.ends_with(b"\r") {
+        &line[..line.len() - 1]
+    } else {
+        line
+    }
+}
+
+fn is_comment(word: &[u8]) -> bool
+    ensures { result ≡ grammar.is_comment word.now }
+{
+    matches!(word, [b'#', ..])
+}
+
+fn is_blank(byte: u8) -> bool
+    ensures { result ≡ grammar.is_blank byte }
+{
+    byte == b' ' || byte == b'\t'
+}
+
+/// The place of the first byte that is no blank.
+fn word_start(bytes: &[u8]) -> Option<usize>
+    ensures { result ≡ position (λ b. not (grammar.is_blank b)) bytes.now }
+{
+    bytes.iter().position(|&byte| !is_blank(byte))
+}
+
+/// The place of the first blank.
+fn first_blank(bytes: &[u8]) -> Option<usize>
+    ensures { result ≡ position grammar.is_blank bytes.now }
+{
+    bytes.iter().position(|&byte| is_blank(byte))
+}
+
+/// The first word of the bytes and what stands after it, or None where they have no word.
+fn first_word(bytes: &[u8]) -> Option<(&[u8], &[u8])>
+    ensures { MatchOption result (words bytes.now ≡ []) (λ w. words bytes.now ≡ w.0.now ∷ words w.1.now) }
+{
+    let start = word_start(bytes)?;
+    let bytes = &bytes[start..];
+    let end = first_blank(bytes).unwrap_or(bytes.len());
+    Some(bytes.split_at(end))
+}
+
+/// The value of decimal digits, or None where the word is no number of the script language.
+fn number(word: &[u8]) -> Option<u32>
+    ensures { result ≡ grammar.number word.now }
+{
+    if word.is_empty() {
+        return None;
+    }
+    let mut value = 0u64;
+    for &byte in word {
+        if !byte.is_ascii_digit() {
+            return None;
+        }
+        value = value * 10 + u64::from(byte - b'0');
+        if value > u64::from(u32::MAX) {
+            return None;
+        }
+    }
+    Some(value as u32)
+}
+
+/// The command that the word and the words after it spell.
+#[tactic(auto, unfolding(lama_model::specs::Script::command_of))]
+fn command(word: &[u8], args: &[u8]) -> Option<Command>
+    ensures { result ≡ command_of word.now (words args.now) }
+{
+    if word == b"vertices".as_slice() {
+        vertices(args)
+    } else if word == b"add".as_slice() {
+        add(args)
+    } else if word == b"checkpoint".as_slice() {
+        checkpoint(args)
+    } else if word == b"row".as_slice() {
+        row(args)
+    } else {
+        None
+    }
+}
+
+/// Whether the bytes have no word.
+fn is_end(args: &[u8]) -> bool
+    ensures { IsTrue result ↔ (words args.now ≡ []) }
+{
+    word_start(args).is_none()
+}
+
+fn vertices(args: &[u8]) -> Option<Command>
+    ensures { result ≡ vertices_command (words args.now) }
+{
+    let (count, rest) = first_word(args)?;
+    if !is_end(rest) {
+        return None;
+    }
+    Some(Command::Write(Write::Vertices(number(count)?)))
+}
+
+fn add(args: &[u8]) -> Option<Command>
+    ensures { result ≡ add_command (words args.now) }
+{
+    let (source, args) = first_word(args)?;
+    let (target, args) = first_word(args)?;
+    let weight = match first_word(args) {
+        Some((weight, args)) if is_end(args) => number(weight)?,
+        Some(_) => return None,
+        None => 1,
+    };
+    Some(Command::Write(Write::Add(number(source)?, number(target)?, u64::from(weight))))
+}
+
+fn checkpoint(args: &[u8]) -> Option<Command>
+    ensures { result ≡ checkpoint_command (words args.now) }
+{
+    is_end(args).then_some(Command::Checkpoint)
+}
+
+fn row(args: &[u8]) -> Option<Command>
+    ensures { result ≡ row_command (words args.now) }
+{
+    let (vertex, rest) = first_word(args)?;
+    if !is_end(rest) {
+        return None;
+    }
+    let v = number(vertex)?;
+    Some(Command::Read {
+        at: None,
+        what: Read::Row { v },
+    })
+}

@@ -1,0 +1,153 @@
+//! Printers: each appends the lines of one answer to the output.
+
+ghost use Rattle.std.specs.Prelude.{◌≡◌, ◌<◌, ◌++◌, take, length, codes, decimal, vec_len, OnOk, OnErr};
+ghost use Rattle.std.specs.List.{flat_map};
+ghost use Rattle.lama_model.specs.Lines.{reply_line, refusal_line, row_line, pair_text};
+ghost use Rattle.lama_model.specs.Row.{row_at};
+
+use itoa::Buffer;
+use lama_model::{Command, Refusal, Reply, Rows, Write};
+use std::alloc::AllocError;
+
+/// Appends what is printed for a reply: a refusal's line for any command, and otherwise the line of
+/// that command and reply, if they have one. Without memory the output stays as it was.
+pub fn print_reply(out: &mut Vec<u8>, command: &Command, reply: &Reply) -> Result<(), AllocError>
+    ensures ok { OnOk result (out.new.items ≡ out.old.items ++ reply_line command.now reply.now) }
+    ensures err { OnErr result (out.new.items ≡ out.old.items) }
+{
+    let before = out.len();
+    let printed = append_reply(out, command, reply);
+    if printed.is_err() {
+        out.truncate(before);
+    }
+    printed
+}
+
+/// Appends the line of the row of the vertex `v` in snapshot `k`, newest edge first. Linear in the
+/// row. Without memory the output stays as it was.
+pub fn print_row<R: Rows>(out: &mut Vec<u8>, k: u32, rows: &R, v: u32) -> Result<(), AllocError>
+    requires { v < length (R.rows rows.now) }
+    ensures ok { OnOk result (out.new.items ≡ out.old.items ++ row_line k v (row_at (R.rows rows.now) v)) }
+    ensures err { OnErr result (out.new.items ≡ out.old.items) }
+{
+    let before = out.len();
+    let printed = append_row(out, k, rows, v);
+    if printed.is_err() {
+        out.truncate(before);
+    }
+    printed
+}
+
+// Each function below may leave a part of its text behind the output where there is no memory for the rest.
+
+#[tactic(auto, unfolding(lama_model::specs::Lines::reply_line))]
+fn append_reply(out: &mut Vec<u8>, command: &Command, reply: &Reply) -> Result<(), AllocError>
+    ensures ok { OnOk result (out.new.items ≡ out.old.items ++ reply_line command.now reply.now) }
+    ensures begins { take (vec_len out.old) out.new.items ≡ out.old.items }
+{
+    match (command, reply) {
+        (_, Reply::Refused(refusal)) => append_refusal(out, refusal),
+        (Command::Write(Write::Vertices(_)), Reply::Count { count }) => append_named(
+            out,
+            b"vertices ",
+            u64::from(*count),
+        ),
+        (Command::Checkpoint, Reply::Snapshot { number }) => append_named(
+            out,
+            b"snapshot ",
+            u64::from(*number),
+        ),
+        _ => Ok(()),
+    }
+}
+
+fn append_refusal(out: &mut Vec<u8>, refusal: &Refusal) -> Result<(), AllocError>
+    ensures ok { OnOk result (out.new.items ≡ out.old.items ++ refusal_line refusal.now) }
+    ensures begins { take (vec_len out.old) out.new.items ≡ out.old.items }
+{
+    match refusal {
+        Refusal::UnknownVertex { vertex, count } => append_unknown(out, *vertex, *count),
+        Refusal::FullVertices => append_text(out, b"full vertices\n"),
+        Refusal::FullEdges => append_text(out, b"full edges\n"),
+        Refusal::FullKept => append_text(out, b"full snapshots\n"),
+        Refusal::FullNumbers => append_text(out, b"full numbers\n"),
+        Refusal::NoSnapshot {
+            asked,
+            oldest,
+            newest,
+        } => append_missing(out, *asked, *oldest, *newest),
+    }
+}
+
+fn append_unknown(out: &mut Vec<u8>, vertex: u32, count: u32) -> Result<(), AllocError>
+    ensures ok { OnOk result (out.new.items ≡ out.old.items ++ refusal_line (Refusal.UnknownVertex vertex count)) }
+    ensures begins { take (vec_len out.old) out.new.items ≡ out.old.items }
+{
+    append_number(out, b"unknown vertex ", u64::from(vertex))?;
+    append_number(out, b" of ", u64::from(count))?;
+    append_text(out, b"\n")
+}
+
+fn append_missing(out: &mut Vec<u8>, asked: u32, oldest: u32, newest: u32) -> Result<(), AllocError>
+    ensures ok { OnOk result (out.new.items ≡ out.old.items ++ refusal_line (Refusal.NoSnapshot asked oldest newest)) }
+    ensures begins { take (vec_len out.old) out.new.items ≡ out.old.items }
+{
+    append_number(out, b"no snapshot ", u64::from(asked))?;
+    append_number(out, b" of ", u64::from(oldest))?;
+    append_number(out, b" ", u64::from(newest))?;
+    append_text(out, b"\n")
+}
+
+fn append_text(out: &mut Vec<u8>, text: &[u8]) -> Result<(), AllocError>
+    ensures ok { OnOk result (out.new.items ≡ out.old.items ++ text.now) }
+    ensures begins { take (vec_len out.old) out.new.items ≡ out.old.items }
+{
+    out.extend_from_slice(text)
+}
+
+/// A text and a number.
+fn append_number(out: &mut Vec<u8>, text: &[u8], number: u64) -> Result<(), AllocError>
+    ensures ok { OnOk result (out.new.items ≡ out.old.items ++ (text.now ++ decimal number)) }
+    ensures begins { take (vec_len out.old) out.new.items ≡ out.old.items }
+{
+    let mut digits = Buffer::new();
+    append_text(out, text)?;
+    append_text(out, digits.format(number).as_bytes())
+}
+
+/// A text, a number and the line's end.
+fn append_named(out: &mut Vec<u8>, text: &[u8], number: u64) -> Result<(), AllocError>
+    ensures ok { OnOk result (out.new.items ≡ out.old.items ++ (text.now ++ decimal number ++ codes "\n")) }
+    ensures begins { take (vec_len out.old) out.new.items ≡ out.old.items }
+{
+    append_number(out, text, number)?;
+    append_text(out, b"\n")
+}
+
+#[tactic(auto, unfolding(lama_model::specs::Lines::row_line))]
+fn append_row<R: Rows>(out: &mut Vec<u8>, k: u32, rows: &R, v: u32) -> Result<(), AllocError>
+    requires { v < length (R.rows rows.now) }
+    ensures ok { OnOk result (out.new.items ≡ out.old.items ++ row_line k v (row_at (R.rows rows.now) v)) }
+    ensures begins { take (vec_len out.old) out.new.items ≡ out.old.items }
+{
+    append_number(out, b"row ", u64::from(k))?;
+    append_number(out, b" ", u64::from(v))?;
+    append_text(out, b" :")?;
+    append_pairs(out, rows, rows.start(v))?;
+    append_text(out, b"\n")
+}
+
+/// The edges of a row from a place on. Linear in them.
+fn append_pairs<R: Rows>(out: &mut Vec<u8>, rows: &R, start: R::At) -> Result<(), AllocError>
+    requires { R.is_place rows.now start }
+    ensures ok { OnOk result (out.new.items ≡ out.old.items ++ flat_map pair_text (R.suffix rows.now start)) }
+    ensures begins { take (vec_len out.old) out.new.items ≡ out.old.items }
+{
+    let mut at = start;
+    while let Some((target, weight, rest)) = rows.next(at) {
+        append_number(out, b" ", u64::from(target))?;
+        append_number(out, b"/", weight)?;
+        at = rest;
+    }
+    Ok(())
+}

@@ -1,0 +1,198 @@
+//! Lines and what they are answered, and answers and what is printed, all worked out by hand.
+
+ghost use Rattle.std.specs.Prelude.{◌≤◌, List, [], ◌∷◌, drop};
+
+use crate::item::{Item, ScriptFault};
+use crate::parser::Parser;
+use crate::printers::{print_reply, print_row};
+use lama_model::{Command, Read, Refusal, Reply, Rows, Write};
+use std::alloc::AllocError;
+
+type Answer = Result<Option<Item>, ScriptFault>;
+
+const SKIPPED: Answer = Ok(None);
+
+const BAD: Answer = Err(ScriptFault::BadLine { line: 1 });
+
+fn says(command: Command) -> Answer {
+    Ok(Some(Item::One(command)))
+}
+
+fn vertices(count: u32) -> Answer {
+    says(Command::Write(Write::Vertices(count)))
+}
+
+fn add(source: u32, target: u32, weight: u64) -> Answer {
+    says(Command::Write(Write::Add(source, target, weight)))
+}
+
+fn row(v: u32) -> Answer {
+    says(Command::Read {
+        at: None,
+        what: Read::Row { v },
+    })
+}
+
+fn answer(line: &[u8]) -> Answer {
+    Parser::plain().line(line)
+}
+
+#[test]
+fn numbers_have_digits_alone_and_fit_32_bits(rt: HostRuntime) {
+    assert_eq!(rt; answer(b"vertices 0"), vertices(0));
+    assert_eq!(rt; answer(b"vertices 4294967295"), vertices(4_294_967_295));
+    assert_eq!(rt; answer(b"vertices 4294967296"), BAD);
+    assert_eq!(rt;
+        answer(b"vertices 00000000000000000000000000000007"),
+        vertices(7)
+    );
+    assert_eq!(rt; answer(b"vertices 99999999999999999999999999999999"), BAD);
+    assert_eq!(rt; answer(b"vertices +5"), BAD);
+    assert_eq!(rt; answer(b"vertices 5x"), BAD);
+}
+
+#[test]
+fn blanks_tabs_and_one_return_part_words(rt: HostRuntime) {
+    assert_eq!(rt; answer(b" \tvertices\t  9\t \r"), vertices(9));
+    assert_eq!(rt; answer(b"vertices 9\r\r"), BAD);
+    assert_eq!(rt; answer(b""), SKIPPED);
+    assert_eq!(rt; answer(b"\r"), SKIPPED);
+    assert_eq!(rt; answer(b" \t "), SKIPPED);
+    assert_eq!(rt; answer(b"\t#vertices 1"), SKIPPED);
+    assert_eq!(rt; answer(b"vertices 1 #"), BAD);
+}
+
+#[test]
+fn each_command_has_its_words(rt: HostRuntime) {
+    assert_eq!(rt; answer(b"vertices"), BAD);
+    assert_eq!(rt; answer(b"vertices 1 2"), BAD);
+    assert_eq!(rt; answer(b"Vertices 1"), BAD);
+    assert_eq!(rt; answer(b"add 2 3"), add(2, 3, 1));
+    assert_eq!(rt; answer(b"add 2 3 5"), add(2, 3, 5));
+    assert_eq!(rt; answer(b"add 2"), BAD);
+    assert_eq!(rt; answer(b"add 2 3 5 7"), BAD);
+    assert_eq!(rt; answer(b"checkpoint"), says(Command::Checkpoint));
+    assert_eq!(rt; answer(b"checkpoint 1"), BAD);
+    assert_eq!(rt; answer(b"row 2"), row(2));
+    assert_eq!(rt; answer(b"row"), BAD);
+    assert_eq!(rt; answer(b"row 2 3"), BAD);
+    assert_eq!(rt; answer(b"par"), BAD);
+}
+
+/// The return at a line's end counts for its length.
+#[test]
+fn a_line_has_at_most_1024_bytes(rt: HostRuntime) -> Result<(), AllocError> {
+    let mut line = Vec::new(rt.alloc());
+    line.resize(1_023, b' ')?;
+    line.extend_from_slice(b"\r")?;
+    assert_eq!(rt; answer(&line), SKIPPED);
+    line.extend_from_slice(b"\r")?;
+    assert_eq!(rt; answer(&line), BAD);
+    Ok(())
+}
+
+#[test]
+fn a_fault_is_given_again(rt: HostRuntime) {
+    let mut parser = Parser::new();
+    assert_eq!(rt; parser.line(b"checkpoint"), says(Command::Checkpoint));
+    assert_eq!(rt; parser.finish(), Ok(()));
+    let fault = ScriptFault::BadLine { line: 2 };
+    assert_eq!(rt; parser.line(b"x"), Err(fault));
+    assert_eq!(rt; parser.line(b"checkpoint"), Err(fault));
+    assert_eq!(rt; parser.finish(), Err(fault));
+    assert_eq!(rt; parser.taken(), 1);
+}
+
+#[test]
+fn replies_print_their_lines(rt: HostRuntime) -> Result<(), AllocError> {
+    let mut out = Vec::new(rt.alloc());
+    let growth = Command::Write(Write::Vertices(3));
+    let edge = Command::Write(Write::Add(0, 1, 1));
+    let unknown = Refusal::UnknownVertex {
+        vertex: 7,
+        count: 3,
+    };
+    let missing = Refusal::NoSnapshot {
+        asked: 5,
+        oldest: 0,
+        newest: 1,
+    };
+    print_reply(&mut out, &growth, &Reply::Count { count: 12 })?;
+    print_reply(&mut out, &edge, &Reply::Accepted)?;
+    print_reply(
+        &mut out,
+        &Command::Checkpoint,
+        &Reply::Snapshot { number: 1 },
+    )?;
+    print_reply(&mut out, &edge, &Reply::Refused(unknown))?;
+    print_reply(&mut out, &growth, &Reply::Refused(Refusal::FullVertices))?;
+    print_reply(&mut out, &edge, &Reply::Refused(Refusal::FullEdges))?;
+    print_reply(
+        &mut out,
+        &Command::Checkpoint,
+        &Reply::Refused(Refusal::FullKept),
+    )?;
+    print_reply(
+        &mut out,
+        &Command::Checkpoint,
+        &Reply::Refused(Refusal::FullNumbers),
+    )?;
+    print_reply(&mut out, &edge, &Reply::Refused(missing))?;
+    let text =
+        b"vertices 12\nsnapshot 1\nunknown vertex 7 of 3\nfull vertices\nfull edges\nfull snapshots\nfull numbers\nno snapshot 5 of 0 1\n";
+    assert_eq!(rt; out.as_slice(), text.as_slice());
+    Ok(())
+}
+
+/// Three vertices, with edges from vertex 0 to 1 and then to 2.
+struct Fork;
+
+impl Rows for Fork {
+    type At = u32;
+
+    ghost rows = { λ _. ((2, 1) ∷ (1, 1) ∷ []) ∷ [] ∷ [] ∷ [] };
+
+    ghost is_place = { λ _ at. at ≤ 2 };
+
+    ghost suffix = { λ _ at. drop at ((2, 1) ∷ (1, 1) ∷ []) };
+
+    fn count(&self) -> u32 {
+        3
+    }
+
+    fn degree(&self, v: u32) -> u32 {
+        match v {
+            0 => 2,
+            1 => 0,
+            _ => 0,
+        }
+    }
+
+    fn start(&self, v: u32) -> u32 {
+        match v {
+            0 => 0,
+            1 => 2,
+            _ => 2,
+        }
+    }
+
+    fn next(&self, at: u32) -> Option<(u32, u64, u32)> {
+        match at {
+            0 => Some((2, 1, 1)),
+            1 => Some((1, 1, 2)),
+            _ => None,
+        }
+    }
+}
+
+#[test]
+fn rows_print_newest_first(rt: HostRuntime) -> Result<(), AllocError> {
+    let mut out = Vec::new(rt.alloc());
+    print_row(&mut out, 1, &Fork, 0)?;
+    print_row(&mut out, 10, &Fork, 2)?;
+    assert_eq!(rt;
+        out.as_slice(),
+        b"row 1 0 : 2/1 1/1\nrow 10 2 :\n".as_slice()
+    );
+    Ok(())
+}
