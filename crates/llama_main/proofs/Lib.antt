@@ -1,2 +1,12 @@
 pub mod RowLemmas
 pub mod StoreLemmas
+pub mod Bytes
+pub mod LineLemmas
+pub mod Future
+pub mod Plain
+pub mod Told
+pub mod Reading
+pub mod Talking
+pub mod Conversation
+pub mod Causes
+pub mod Top

@@ -1,7 +1,70 @@
 //! `llama`: a store for changing directed graphs, run by a script from standard input.
 #![tactic(auto)]
 
-mod list_rows;
-mod store;
+ghost use Rattle.std.specs.Prelude.{◌≡◌};
 
-fn main() {}
+mod interpreter;
+mod list_rows;
+mod run;
+pub mod run_llama;
+mod session;
+pub mod status;
+mod stop;
+mod store;
+mod writing;
+
+use lama_outside::{NoGate, StdSink, StdSource};
+use lama_pages::Steps;
+use run_llama::run_llama;
+use status::Status;
+use std::alloc::{AllocError, Global};
+use std::env;
+use std::io::ErrorKind;
+use std::marker::Brand;
+use std::process::ExitCode;
+use std::sync::ledger::{Blank, Ledger};
+
+/// The words after the program's name. A word that is no text makes one empty word of them all, which
+/// is not in the grammar.
+fn command_line(rt: &HostRuntime, alloc: Global) -> Result<Vec<String>, AllocError> {
+    let mut words = Vec::new(alloc);
+    match env::args(rt) {
+        Ok(all) => {
+            for word in all.skip(1) {
+                words.push(word)?;
+            }
+        }
+        Err(fault) if fault.kind() == ErrorKind::OutOfMemory => return Err(AllocError),
+        Err(_) => words.push(String::new(alloc))?,
+    }
+    Ok(words)
+}
+
+/// Runs the program over the standard streams, with a ledger of its own for the pages that it makes.
+fn run_standard<L: Ledger>(rt: &HostRuntime, words: &[String], blank: Blank) -> Status
+    requires name { blank.name ≡ L.name }
+    requires parts { blank.parts ≡ L.parts }
+    requires one { blank.parts ≡ 1 }
+{
+    let mut source = StdSource::new(rt);
+    let mut sink = StdSink::new(rt);
+    let mut pages: Steps<L> = Steps::open(blank);
+    run_llama(
+        rt,
+        rt.alloc(),
+        words,
+        &mut source,
+        &mut sink,
+        &NoGate,
+        &mut pages,
+    )
+    .status
+}
+
+fn main(rt: HostRuntime) -> ExitCode {
+    let status = match command_line(&rt, rt.alloc()) {
+        Ok(words) => run_standard::<Brand>(&rt, &words, Blank::new(1)),
+        Err(_) => Status::NoMemory,
+    };
+    ExitCode::from(status.code())
+}

@@ -1,9 +1,10 @@
 //! The plain store: a list of edges, and for each checkpoint how much of it there was.
 
-ghost use Rattle.std.specs.Prelude.{◌≡◌, ◌<◌, ◌≤◌, ◌-◌, [], IfOk, OnOk, OnErr, Some};
+ghost use Rattle.std.specs.Prelude.{◌≡◌, ◌<◌, ◌≤◌, ℕ, [], IfOk, OnOk, OnErr, Some};
 ghost use Rattle.lama_model.specs.Opening.{empty_opening};
 ghost use Rattle.lama_model.specs.Journal.{reply_at, newest_of, graph_of};
 ghost use Rattle.lama_model.specs.Text.{look_of};
+ghost use Rattle.lama_model.specs.declared.answers.Reply.TheVariants.{Snapshot};
 ghost use Rattle.lama_model.specs.declared.calls.Write.TheVariants.{Vertices, Add};
 ghost use Rattle.lama_model.specs.declared.calls.Call.TheVariants.{Write as WriteCall, Checkpoint};
 
@@ -132,6 +133,7 @@ impl PlainStore {
         requires { self.old.calls < 4194304 }
         ensures reply { result ≡ reply_at empty_opening self.old.standing (look_of at) }
         ensures after { self.new ≡ called self.old (look_of at) }
+        ensures within { (k : ℕ) → result ≡ Snapshot k → k ≤ newest_of empty_opening self.new.standing }
     {
         self.calls += 1;
         let newest = self.marks.len() as u32;

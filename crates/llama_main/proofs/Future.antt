@@ -1,0 +1,114 @@
+-- What is foreseen at the start is the outcome, and how it goes on line by line.
+use Rattle.std.proofs.Common.{◌≡◌, ℕ, ◌+◌, ◌<◌, ◌≤◌, Bool, true, false, cond, List, [], ◌∷◌, ◌++◌, length, map, refl, sym, ap, subst, ◌∙◌, arith}
+use Rattle.std.specs.Prelude.{fold, nat_lt}
+use Rattle.std.proofs.lemmas.List.{append-nil, append_assoc, length-append}
+use Rattle.std.proofs.lemmas.List.Sums.{fold-append}
+use Rattle.std.proofs.lemmas.Bool.Decides.{nat_tests}
+use Rattle.lama_model.specs.Opening.{empty_opening}
+use Rattle.lama_model.specs.Journal.{Standing, standing, after, begun, reply_at, graph_of, reply, graph}
+use Rattle.lama_model.specs.Script.{Meaning, Item, End, Script, meaning, meaning_of_words, words, without_return, script, script_from, lines, with_line}
+use Rattle.lama_model.specs.Script.Meaning.{Skipped, Says, Bad}
+use Rattle.lama_model.specs.Script.Item.{One}
+use Rattle.lama_model.specs.Script.End.{Whole, BadAt, TooMany}
+use Rattle.lama_model.specs.Lines.{last_line, reply_line}
+use Rattle.lama_model.specs.Text.{Told, tell, text, text_of, entry, journal_after, calls_of, lines_of, reading_lines, look_of}
+use Rattle.lama_model.specs.declared.calls.Call.{Call}
+use Rattle.lama_model.specs.declared.calls.Entry.{Entry}
+use Rattle.lama_model.specs.declared.commands.Command.{Command}
+use Rattle.lama_model.specs.declared.commands.Command.TheVariants.{Write as Writes, Checkpoint as Checkpoints, Read as Reads}
+use Rattle.lama_model.specs.declared.commands.Read.{Read}
+use Rattle.lama_model.specs.declared.answers.Reply.{Reply}
+use Rattle.lama_model.specs.declared.answers.Reply.TheVariants.{Accepted, Count, Snapshot, Kept, Refused}
+use Rattle.llama_main.specs.Store.{Held, held, called}
+use Rattle.llama_main.specs.Outlook.{Outcome, outcome, behind, ended, call_of, held_after, printed, printed_reading, following, outlook_at}
+
+-- what is held after this journal
+abbrev held_by : List Entry → Held
+held_by journal = record { standing = standing empty_opening journal; calls = length journal }
+
+-- one entry more
+held_by-push : (journal : List Entry) (call : Call) → held_by (journal ++ entry 0 call ∷ []) ≡ called (held_by journal) call
+unfolding standing
+held_by-push journal call =
+    let left : standing empty_opening (journal ++ entry 0 call ∷ []) ≡ after empty_opening (standing empty_opening journal) call = fold-append (λ (s : Standing) (e : Entry). after empty_opening s e.call) (begun empty_opening) journal (entry 0 call ∷ []) in
+    let more : length (journal ++ entry 0 call ∷ []) ≡ length journal + 1 = length-append journal (entry 0 call ∷ []) in
+    rw (left, more) refl
+
+-- a command's entry
+journal_after-held : (journal : List Entry) (c : Command) → held_by (journal_after empty_opening journal 0 c) ≡ held_after (held_by journal) c
+journal_after-held journal (Writes w) = held_by-push journal _
+journal_after-held journal Checkpoints = held_by-push journal _
+journal_after-held journal (Reads at what) = held_by-push journal _
+
+reading-printed : (journal : List Entry) (h : Held) (c : Command) (what : Read) (r : Reply) → held_by journal ≡ h → reading_lines empty_opening journal c what r ≡ printed_reading h c what r
+reading-printed journal h c what Accepted is = refl
+reading-printed journal h c what (Count n) is = refl
+reading-printed journal h c what (Snapshot k) is = rw (← is) refl
+reading-printed journal h c what (Kept a b) is = refl
+reading-printed journal h c what (Refused r) is = refl
+
+-- a command's lines
+lines_of-printed : (journal : List Entry) (c : Command) → lines_of empty_opening journal 0 c ≡ printed (held_by journal) c
+lines_of-printed journal (Writes w) = refl
+lines_of-printed journal Checkpoints = refl
+lines_of-printed journal (Reads at what) =
+    reading-printed (journal_after empty_opening journal 0 (Reads at what)) (held_after (held_by journal) (Reads at what)) (Reads at what) what (reply empty_opening journal (look_of at)) (journal_after-held journal (Reads at what))
+
+-- the outcome of a script that was read so, after a journal
+abbrev outcome_of : List Entry → Script → Outcome
+outcome_of journal s = record { text = text_of empty_opening journal s; end = s.end }
+
+-- the same text before the rest, grouped the other way
+outcome_of-says : (journal : List Entry) (n : ℕ) (c : Command) (s : Script) → outcome_of journal (with_line n (Says c) s) ≡ behind (printed (held_by journal) c) (outcome_of (journal_after empty_opening journal 0 c) s)
+outcome_of-says journal n c s =
+    let later = tell empty_opening (journal_after empty_opening journal 0 c) s.items in
+    let last = last_line (length later.journal) s.end in
+    ap (λ (text : List ℕ). let o : Outcome = record { text = text; end = s.end } in o) (append_assoc (lines_of empty_opening journal 0 c) later.said last ∙ ap (λ (said : List ℕ). said ++ (later.said ++ last)) (lines_of-printed journal c))
+
+-- one line more, by what it says, where the rest is known
+line-following : (journal : List Entry) (n : ℕ) (rest : List (List ℕ)) (m : Meaning) → ((j : List Entry) → outcome_of j (script_from (n + 1) rest) ≡ outlook_at (held_by j) (n + 1) rest) → outcome_of journal (with_line n m (script_from (n + 1) rest)) ≡ following (held_by journal) n m (λ g. outlook_at g (n + 1) rest)
+line-following journal n rest Skipped known = known journal
+line-following journal n rest Bad known = refl
+line-following journal n rest (Says c) known =
+    outcome_of-says journal n c (script_from (n + 1) rest) ∙ ap (behind (printed (held_by journal) c)) (known (journal_after empty_opening journal 0 c) ∙ ap (λ (h : Held). outlook_at h (n + 1) rest) (journal_after-held journal c))
+
+choice : (journal : List Entry) (b : Bool) (s : Script) (o : Outcome) → outcome_of journal s ≡ o → outcome_of journal (cond b (record { items = []; end = TooMany }) s) ≡ cond b (ended (held_by journal) TooMany) o
+choice journal true s o h = refl
+choice journal false s o h = h
+
+outlook-script : (journal : List Entry) (n : ℕ) (ls : List (List ℕ)) → outcome_of journal (script_from n ls) ≡ outlook_at (held_by journal) n ls
+unfolding outlook_at
+outlook-script journal n [] = refl
+outlook-script journal n (line ∷ rest) =
+    choice journal (nat_lt 2097152 n) (with_line n (meaning line) (script_from (n + 1) rest)) (following (held_by journal) n (meaning line) (λ g. outlook_at g (n + 1) rest)) (line-following journal n rest (meaning line) (λ j. outlook-script j (n + 1) rest))
+
+-- what is foreseen before anything came is the outcome
+pub outcome-outlook : (bytes : List ℕ) → outcome empty_opening bytes ≡ outlook_at (held 0 [] [] 0) 1 (lines bytes)
+unfolding text standing
+outcome-outlook bytes = outlook-script [] 1 (lines bytes)
+
+-- the next line, where it is one of those that are taken
+pub outlook_at-line : (h : Held) (n : ℕ) (line : List ℕ) (rest : List (List ℕ)) → n ≤ 2097152 → outlook_at h n (line ∷ rest) ≡ following h n (meaning line) (λ g. outlook_at g (n + 1) rest)
+unfolding outlook_at
+outlook_at-line h n line rest few =
+    let test : nat_lt 2097152 n ≡ false = grind (arith, nat_tests) in
+    ap (λ (b : Bool). cond b (ended h TooMany) (following h n (meaning line) (λ g. outlook_at g (n + 1) rest))) test
+
+-- a line past the last one that is taken
+pub outlook_at-many : (h : Held) (n : ℕ) (line : List ℕ) (rest : List (List ℕ)) → 2097152 < n → outlook_at h n (line ∷ rest) ≡ ended h TooMany
+unfolding outlook_at
+outlook_at-many h n line rest many =
+    let test : nat_lt 2097152 n ≡ true = grind (arith, nat_tests) in
+    ap (λ (b : Bool). cond b (ended h TooMany) (following h n (meaning line) (λ g. outlook_at g (n + 1) rest))) test
+
+-- no line
+pub outlook_at-nil : (h : Held) (n : ℕ) → outlook_at h n [] ≡ ended h Whole
+unfolding outlook_at
+outlook_at-nil h n = refl
+
+-- a line that is too long says nothing good
+pub meaning-long : (line : List ℕ) → 1024 < length line → meaning line ≡ Bad
+unfolding meaning
+meaning-long line long =
+    let test : nat_lt 1024 (length line) ≡ true = grind (arith, nat_tests) in
+    ap (λ (b : Bool). cond b Bad (meaning_of_words (words (without_return line)))) test

@@ -1,0 +1,131 @@
+-- What a run says, whether its words were in the grammar or not.
+use Rattle.std.proofs.Common.{◌≡◌, ℕ, List, [], ◌∷◌, length, refl, sym, ap, subst, ◌∙◌, Option, Some, None, ◌⊎◌, inl, inr, eqb, true, false, arith}
+use Rattle.std.proofs.lemmas.Bool.Decides.{nat_tests}
+use Rattle.std.specs.Prelude.{IfSome}
+use Rattle.lama_model.specs.Opening.{empty_opening}
+use Rattle.lama_model.specs.Script.{End}
+use Rattle.lama_model.specs.Text.{text}
+use Rattle.lama_model.specs.Lines.{usage_line}
+use Rattle.llama_main.specs.declared.status.Status.{Status}
+use Rattle.llama_main.specs.declared.status.Status.TheVariants as statuses
+use Rattle.llama_main.specs.Stops.{IsFront, Appends, Gave, HasEnded}
+use Rattle.llama_main.specs.Ending.{end_of, IsCut, IsOutside, Exchanges, IsText, IsSettled}
+use Rattle.llama_main.specs.Hearing.{Ran, Fits}
+use Rattle.llama_main.specs.Words.{AreInGrammar, text_under, AreRefused}
+use Rattle.llama_main.proofs.Bytes.{Gave-none}
+
+-- there are no words, or there are some
+pub words_cases : {A : Type 0} (words : List A) → (words ≡ []) ⊎ (words ≡ [] → ⊥)
+words_cases [] = inl refl
+words_cases (word ∷ words) = inr (λ h. cc)
+
+pub no_words : {A : Type 0} (words : List A) → eqb (length words) 0 ≡ true → words ≡ []
+no_words [] h = refl
+no_words (word ∷ words) h = absurd (grind (arith, nat_tests))
+
+pub some_words : {A : Type 0} (words : List A) → eqb (length words) 0 ≡ false → words ≡ [] → ⊥
+some_words [] h = λ e. cc
+some_words (word ∷ words) h = λ e. cc
+
+pub outside_status : (w w' : Option (List ℕ)) (status : Status) → AreRefused w w' status → IsOutside status
+outside_status w w' status (inl h) = subst IsOutside (sym h.0) tt
+outside_status w w' status (inr h) = by h.3
+  where
+    by : (status ≡ statuses.WriteFault) ⊎ (status ≡ statuses.NoMemory) → IsOutside status
+    by (inl is) = subst IsOutside (sym is) tt
+    by (inr is) = subst IsOutside (sym is) tt
+
+-- an outside status names no end of a script
+outside_end : (status : Status) (P : End → Type 0) → IsOutside status → IfSome (end_of status) P
+outside_end statuses.Done P h = absurd h
+outside_end statuses.Usage P h = tt
+outside_end (statuses.BadLine n) P h = absurd h
+outside_end statuses.ReadFault P h = tt
+outside_end statuses.WriteFault P h = tt
+outside_end statuses.NoMemory P h = tt
+outside_end statuses.TooManyLines P h = absurd h
+
+fits_text : (l l' w w' : Option (List ℕ)) (status : Status) (given taken : List ℕ) → Gave l l' given → Appends w w' taken → Fits l l' given taken status → IfSome (end_of status) (λ e. Exchanges l l' w w' (λ given taken. IsText given taken e))
+fits_text l l' w w' statuses.Done given taken gave took fits = (given, taken, gave, took, fits.1)
+fits_text l l' w w' statuses.Usage given taken gave took fits = tt
+fits_text l l' w w' (statuses.BadLine n) given taken gave took fits = (given, taken, gave, took, fits.1)
+fits_text l l' w w' statuses.ReadFault given taken gave took fits = tt
+fits_text l l' w w' statuses.WriteFault given taken gave took fits = tt
+fits_text l l' w w' statuses.NoMemory given taken gave took fits = tt
+fits_text l l' w w' statuses.TooManyLines given taken gave took fits = (given, taken, gave, took, fits.1)
+
+fits_settled : (l l' w w' : Option (List ℕ)) (status : Status) (given taken : List ℕ) → Gave l l' given → Appends w w' taken → Fits l l' given taken status → IfSome (end_of status) (λ e. Exchanges l l' w w' (λ given taken. IsSettled l l' given))
+fits_settled l l' w w' statuses.Done given taken gave took fits = (given, taken, gave, took, inl fits.0)
+fits_settled l l' w w' statuses.Usage given taken gave took fits = tt
+fits_settled l l' w w' (statuses.BadLine n) given taken gave took fits = (given, taken, gave, took, fits.0)
+fits_settled l l' w w' statuses.ReadFault given taken gave took fits = tt
+fits_settled l l' w w' statuses.WriteFault given taken gave took fits = tt
+fits_settled l l' w w' statuses.NoMemory given taken gave took fits = tt
+fits_settled l l' w w' statuses.TooManyLines given taken gave took fits = (given, taken, gave, took, fits.0)
+
+fits_cut : (l l' w w' : Option (List ℕ)) (status : Status) (given taken : List ℕ) → Gave l l' given → Appends w w' taken → Fits l l' given taken status → IsCut status → Exchanges l l' w w' (λ given taken. IsFront taken (text empty_opening given))
+fits_cut l l' w w' statuses.Done given taken gave took fits cut = absurd cut
+fits_cut l l' w w' statuses.Usage given taken gave took fits cut = absurd cut
+fits_cut l l' w w' (statuses.BadLine n) given taken gave took fits cut = absurd cut
+fits_cut l l' w w' statuses.ReadFault given taken gave took fits cut = (given, taken, gave, took, fits)
+fits_cut l l' w w' statuses.WriteFault given taken gave took fits cut = (given, taken, gave, took, fits)
+fits_cut l l' w w' statuses.NoMemory given taken gave took fits cut = (given, taken, gave, took, fits)
+fits_cut l l' w w' statuses.TooManyLines given taken gave took fits cut = absurd cut
+
+-- what is known of a run: the script was run, or the words were refused and nothing was read
+abbrev RunsInside : {A : Type 0} → List A → Option (List ℕ) → Option (List ℕ) → Option (List ℕ) → Option (List ℕ) → Status → Type 0
+RunsInside words l l' w w' status = words ≡ [] → Ran l l' w w' status
+
+abbrev RefusesOutside : {A : Type 0} → List A → Option (List ℕ) → Option (List ℕ) → Option (List ℕ) → Option (List ℕ) → Status → Type 0
+RefusesOutside words l l' w w' status = (words ≡ [] → ⊥) → AreRefused w w' status × (l' ≡ l)
+
+pub text_clause : {A : Type 0} (words : List A) (l l' w w' : Option (List ℕ)) (status : Status) → RunsInside words l l' w w' status → RefusesOutside words l l' w w' status → IfSome (end_of status) (λ e. Exchanges l l' w w' (λ given taken. IsText given taken e))
+text_clause words l l' w w' status inside outside = by (words_cases words)
+  where
+    by : (words ≡ []) ⊎ (words ≡ [] → ⊥) → IfSome (end_of status) (λ e. Exchanges l l' w w' (λ given taken. IsText given taken e))
+    by (inl h) = let ran = inside h in fits_text l l' w w' status ran.given ran.taken ran.gave ran.took ran.fits
+    by (inr h) = outside_end status (λ e. Exchanges l l' w w' (λ given taken. IsText given taken e)) (outside_status w w' status (outside h).0)
+
+pub settled_clause : {A : Type 0} (words : List A) (l l' w w' : Option (List ℕ)) (status : Status) → RunsInside words l l' w w' status → RefusesOutside words l l' w w' status → IfSome (end_of status) (λ e. Exchanges l l' w w' (λ given taken. IsSettled l l' given))
+settled_clause words l l' w w' status inside outside = by (words_cases words)
+  where
+    by : (words ≡ []) ⊎ (words ≡ [] → ⊥) → IfSome (end_of status) (λ e. Exchanges l l' w w' (λ given taken. IsSettled l l' given))
+    by (inl h) = let ran = inside h in fits_settled l l' w w' status ran.given ran.taken ran.gave ran.took ran.fits
+    by (inr h) = outside_end status (λ e. Exchanges l l' w w' (λ given taken. IsSettled l l' given)) (outside_status w w' status (outside h).0)
+
+-- at Done the source has ended
+pub ended_clause : {A : Type 0} (words : List A) (l l' w w' : Option (List ℕ)) (status : Status) → RunsInside words l l' w w' status → RefusesOutside words l l' w w' status → status ≡ statuses.Done → HasEnded l l'
+ended_clause words l l' w w' status inside outside done = by (words_cases words)
+  where
+    by : (words ≡ []) ⊎ (words ≡ [] → ⊥) → HasEnded l l'
+    by (inl h) = let ran = inside h in (subst (Fits l l' ran.given ran.taken) done ran.fits).0
+    by (inr h) = absurd (subst IsOutside done (outside_status w w' status (outside h).0))
+
+cut_outside : {A : Type 0} (words : List A) (l l' w w' : Option (List ℕ)) (status : Status) → (words ≡ [] → ⊥) → AreRefused w w' status → l' ≡ l → IsCut status → Exchanges l l' w w' (λ given taken. IsFront taken (text_under words given))
+cut_outside [] l l' w w' status some refused same cut = absurd (some refl)
+cut_outside (word ∷ words) l l' w w' status some (inl h) same cut = absurd (subst IsCut h.0 cut)
+cut_outside (word ∷ words) l l' w w' status some (inr h) same cut = ([], h.0, subst (λ (x : Option (List ℕ)). Gave l x []) (sym same) (Gave-none l), h.1, h.2)
+
+pub cut_clause : {A : Type 0} (words : List A) (l l' w w' : Option (List ℕ)) (status : Status) → RunsInside words l l' w w' status → RefusesOutside words l l' w w' status → IsCut status → Exchanges l l' w w' (λ given taken. IsFront taken (text_under words given))
+cut_clause words l l' w w' status inside outside cut = by (words_cases words)
+  where
+    by : (words ≡ []) ⊎ (words ≡ [] → ⊥) → Exchanges l l' w w' (λ given taken. IsFront taken (text_under words given))
+    by (inl h) =
+        let ran = inside h in
+        subst (λ ws. Exchanges l l' w w' (λ given taken. IsFront taken (text_under ws given))) (sym h) (fits_cut l l' w w' status ran.given ran.taken ran.gave ran.took ran.fits cut)
+    by (inr h) = let out = outside h in cut_outside words l l' w w' status h out.0 out.1 cut
+
+refused_usage : (w w' : Option (List ℕ)) (status : Status) → AreRefused w w' status → status ≡ statuses.Usage → Appends w w' usage_line
+refused_usage w w' status (inl h) is = h.1
+refused_usage w w' status (inr h) is = by h.3
+  where
+    by : (status ≡ statuses.WriteFault) ⊎ (status ≡ statuses.NoMemory) → Appends w w' usage_line
+    by (inl other) = cc
+    by (inr other) = cc
+
+pub usage_clause : {A : Type 0} (words : List A) (l l' w w' : Option (List ℕ)) (status : Status) → RunsInside words l l' w w' status → RefusesOutside words l l' w w' status → status ≡ statuses.Usage → (words ≡ [] → ⊥) × Appends w w' usage_line
+usage_clause words l l' w w' status inside outside is = by (words_cases words)
+  where
+    by : (words ≡ []) ⊎ (words ≡ [] → ⊥) → (words ≡ [] → ⊥) × Appends w w' usage_line
+    by (inl h) = let ran = inside h in absurd (subst (Fits l l' ran.given ran.taken) is ran.fits)
+    by (inr h) = (h, refused_usage w w' status (outside h).0 is)

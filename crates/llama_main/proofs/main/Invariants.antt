@@ -1,0 +1,5 @@
+-- The ledger that the run counts in is the one that the blank opens.
+use Rattle.llama_main.proofs.main.Given as goal
+
+abbrev pub ghosts-run_standard : goal.ghosts-run_standard
+ghosts-run_standard a = record { name = a.blank.name; parts = a.blank.parts }

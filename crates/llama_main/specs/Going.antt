@@ -1,0 +1,22 @@
+-- A run that goes on: what it is going to have written.
+use Rattle.std.specs.Prelude.{◌≡◌, ℕ, ◌+◌, ◌-◌, ◌*◌, ◌≤◌, List, ◌++◌, length}
+use Rattle.lama_model.specs.Script.{lines}
+use Rattle.lama_model.specs.Script.End.{Whole}
+use Rattle.llama_main.specs.Outlook.{Outcome, behind, outlook_at}
+use Rattle.lama_model.specs.declared.commands.Command.{Command}
+use Rattle.lama_script.specs.declared.item.Item.{Item}
+use Rattle.lama_script.specs.declared.item.Item.TheVariants.{One}
+use Rattle.llama_main.specs.declared.interpreter.Interpreter.{Interpreter}
+
+-- what will have been written where these lines are still to come
+abbrev pub outlook : Interpreter → List (List ℕ) → Outcome
+outlook i rest = behind i.out.items (outlook_at i.store (i.parser.taken + 1) rest)
+
+-- no line was bad, and each call came from a line
+pub record IsGoing (i : Interpreter) : Type 0 where
+  pub whole : i.parser.end ≡ Whole
+  pub calls : i.store.calls ≤ i.parser.taken
+
+-- the command of an item
+abbrev pub command_in : Item → Command
+command_in (One c) = c

@@ -1,0 +1,82 @@
+-- What a run is going to have written, seen from a moment of it. The calls so far are known by what they leave.
+use Rattle.std.specs.Prelude.{ℕ, ◌+◌, nat_lt, if◌then◌else◌, List, [], ◌∷◌, ◌++◌}
+use Rattle.lama_model.specs.Graph.{Graph}
+use Rattle.lama_model.specs.Opening.{Opening, empty_opening}
+use Rattle.lama_model.specs.Journal.{reply_at, graph_of}
+use Rattle.lama_model.specs.Script.{End, Meaning, script, lines, meaning}
+use Rattle.lama_model.specs.Script.End.{Whole, BadAt, TooMany}
+use Rattle.lama_model.specs.Script.Meaning.{Skipped, Says, Bad}
+use Rattle.lama_model.specs.Lines.{reply_line, last_line}
+use Rattle.lama_model.specs.Text.{text, look_of, read_lines}
+use Rattle.lama_model.specs.declared.calls.Write.TheVariants.{Vertices, Add, Remove, Weigh}
+use Rattle.lama_model.specs.declared.calls.Call.{Call}
+use Rattle.lama_model.specs.declared.calls.Call.TheVariants.{Write as WriteCall, Checkpoint}
+use Rattle.lama_model.specs.declared.commands.Command.{Command}
+use Rattle.lama_model.specs.declared.commands.Command.TheVariants.{Write as Writes, Checkpoint as Checkpoints, Read as Reads}
+use Rattle.lama_model.specs.declared.commands.Read.{Read}
+use Rattle.lama_model.specs.declared.answers.Reply.{Reply}
+use Rattle.lama_model.specs.declared.answers.Reply.TheVariants.{Accepted, Count, Snapshot, Kept, Refused}
+use Rattle.llama_main.specs.Store.{Held, called}
+
+-- a text, and how the script ends
+pub record Outcome : Type 0 where
+  pub text : List ℕ
+  pub end : End
+
+-- the outcome of a script of these bytes
+abbrev pub outcome : Opening → List ℕ → Outcome
+outcome o bytes = record { text = text o bytes; end = (script bytes).end }
+
+-- the same with these bytes written before it
+abbrev pub behind : List ℕ → Outcome → Outcome
+behind said rest = record { text = said ++ rest.text; end = rest.end }
+
+-- nothing more but the last line
+abbrev pub ended : Held → End → Outcome
+ended h end = record { text = last_line h.calls end; end = end }
+
+-- the call of a command
+abbrev pub call_of : Command → Call
+call_of (Writes w) = WriteCall w
+call_of Checkpoints = Checkpoint
+call_of (Reads at what) = look_of at
+
+-- what is held after a command
+abbrev pub held_after : Held → Command → Held
+held_after h command = called h (call_of command)
+
+-- what a reading command prints, where its call left this
+abbrev pub printed_reading : Held → Command → Read → Reply → List ℕ
+printed_reading h command what (Snapshot k) = read_lines (graph_of empty_opening h.standing k) k what
+printed_reading h command what (Refused r) = reply_line command (Refused r)
+printed_reading h command what Accepted = []
+printed_reading h command what (Count c) = []
+printed_reading h command what (Kept a b) = []
+
+-- what a command prints
+abbrev pub printed : Held → Command → List ℕ
+printed h (Writes w) = reply_line (Writes w) (reply_at empty_opening h.standing (WriteCall w))
+printed h Checkpoints = reply_line Checkpoints (reply_at empty_opening h.standing Checkpoint)
+printed h (Reads at what) =
+    printed_reading (held_after h (Reads at what)) (Reads at what) what (reply_at empty_opening h.standing (look_of at))
+
+-- the line of number n that says this, and then the rest
+abbrev pub following : Held → ℕ → Meaning → (Held → Outcome) → Outcome
+following h n Skipped rest = rest h
+following h n (Says c) rest = behind (printed h c) (rest (held_after h c))
+following h n Bad rest = ended h (BadAt n)
+
+-- the lines from the one of number n on
+unfoldable pub outlook_at : Held → ℕ → List (List ℕ) → Outcome
+outlook_at h n [] = ended h Whole
+outlook_at h n (line ∷ rest) =
+    if nat_lt 2097152 n then ended h TooMany else following h n (meaning line) (λ g. outlook_at g (n + 1) rest)
+
+-- a command that the plain store answers
+abbrev pub IsPlain : Command → Type 0
+IsPlain (Writes (Vertices n)) = Unit {0}
+IsPlain (Writes (Add u v w)) = Unit {0}
+IsPlain (Writes (Remove u v)) = ⊥
+IsPlain (Writes (Weigh u v w)) = ⊥
+IsPlain Checkpoints = Unit {0}
+IsPlain (Reads at what) = Unit {0}

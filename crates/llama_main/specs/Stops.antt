@@ -1,0 +1,48 @@
+-- Why a run stops, and what that says of the script.
+use Rattle.std.specs.Prelude.{◌≡◌, ℕ, false, List, [], ◌∷◌, ◌++◌, All, Option, IfSome, Some, None}
+use Rattle.lama_model.specs.Script.{End, is_line_feed}
+use Rattle.lama_model.specs.Script.End.{Whole, BadAt, TooMany}
+use Rattle.lama_model.specs.Lines.{last_line}
+use Rattle.llama_main.specs.Outlook.{Outcome}
+use Rattle.llama_main.specs.declared.stop.Stop.{Stop}
+use Rattle.llama_main.specs.declared.stop.Stop.TheVariants.{BadLine, TooManyLines, ReadFault, WriteFault, NoMemory}
+
+-- the bytes are a front of the text
+abbrev pub IsFront : List ℕ → List ℕ → Type 0
+IsFront front text = (rest : List ℕ) × (text ≡ front ++ rest)
+
+-- the sink took the piece, where it tells that
+abbrev pub Appends : Option (List ℕ) → Option (List ℕ) → List ℕ → Type 0
+Appends before now piece = IfSome before (λ written. now ≡ Some (written ++ piece))
+
+-- the source gave the piece, where it tells that
+abbrev pub Gave : Option (List ℕ) → Option (List ℕ) → List ℕ → Type 0
+Gave before now piece = IfSome before (λ left. (rest : List ℕ) × (now ≡ Some rest) × (left ≡ piece ++ rest))
+
+-- the source has nothing left now, where it tells that
+abbrev pub HasEnded : Option (List ℕ) → Option (List ℕ) → Type 0
+HasEnded before now = IfSome before (λ left. now ≡ Some [])
+
+-- the last line says that the script ends so
+abbrev pub last_of : List ℕ → End → Outcome
+last_of said end = record { text = said ++ last_line 0 end; end = end }
+
+-- where a run stops so, what was said is all but the last line, or a front of the text
+abbrev pub StopsAt : Stop → List ℕ → Outcome → Type 0
+StopsAt (BadLine n) said whole = whole ≡ last_of said (BadAt n)
+StopsAt TooManyLines said whole = whole ≡ last_of said TooMany
+StopsAt ReadFault said whole = IsFront said whole.text
+StopsAt WriteFault said whole = IsFront said whole.text
+StopsAt NoMemory said whole = IsFront said whole.text
+
+-- a stop that comes from the script or for want of memory, and from no fault outside
+abbrev pub IsOfScript : Stop → Type 0
+IsOfScript (BadLine n) = Unit {0}
+IsOfScript TooManyLines = Unit {0}
+IsOfScript ReadFault = ⊥
+IsOfScript WriteFault = ⊥
+IsOfScript NoMemory = Unit {0}
+
+-- no byte of the line is a line feed
+abbrev pub HasNoFeed : List ℕ → Type 0
+HasNoFeed line = All (λ b. is_line_feed b ≡ false) line

@@ -1,0 +1,171 @@
+//! Obeys the lines of a script, and gathers their answers.
+
+ghost use Rattle.std.specs.Prelude.{◌≡◌, ◌+◌, ◌<◌, ◌≤◌, [], ◌∷◌, ◌++◌, ℕ, List, IfOk, IfErr, OnOk, OnErr, length};
+ghost use Rattle.lama_model.specs.Opening.{empty_opening};
+ghost use Rattle.lama_model.specs.Journal.{newest_of, graph_of, reply_at};
+ghost use Rattle.lama_model.specs.Text.{read_lines};
+ghost use Rattle.lama_model.specs.declared.calls.Call.TheVariants.{Write as WriteCall};
+ghost use Rattle.lama_model.specs.declared.commands.Command.TheVariants.{Write as Writes};
+ghost use Rattle.lama_model.specs.declared.commands.Read.TheVariants.{Row};
+ghost use Rattle.llama_main.specs.Store.{called, held};
+ghost use Rattle.llama_main.specs.Outlook.{IsPlain, held_after, printed, outlook_at};
+ghost use Rattle.llama_main.specs.Stops.{StopsAt, IsOfScript};
+ghost use Rattle.llama_main.specs.Going.{outlook, IsGoing, command_in};
+
+use crate::stop::Stop;
+use crate::store::PlainStore;
+use lama_model::{Refusal, Reply, Rows, Write};
+use lama_script::{Command, Item, Parser, Read, ScriptFault, print_reply, print_row};
+use std::alloc::{AllocError, Global};
+
+/// Takes the lines of one script, one after another.
+#[derive(Drop)]
+pub struct Interpreter {
+    pub store: PlainStore,
+    pub parser: Parser,
+    // The answers that are to be written.
+    pub out: Vec<u8>,
+}
+
+impl Interpreter {
+    /// Before the first line.
+    pub fn new(alloc: Global) -> Self
+        ensures start { (rest : List (List ℕ)) → outlook result rest ≡ outlook_at (held 0 [] [] 0) 1 rest }
+        ensures going { IsGoing result }
+        ensures none { result.out.items ≡ [] }
+    {
+        Interpreter {
+            store: PlainStore::new(alloc),
+            parser: Parser::plain(),
+            out: Vec::new(alloc),
+        }
+    }
+
+    /// How many lines were taken.
+    pub fn taken(&self) -> u32
+        ensures count { result ≡ self.now.parser.taken }
+        ensures within { result ≤ 2097152 }
+    {
+        self.parser.taken()
+    }
+
+    /// How many calls were made.
+    pub fn calls(&self) -> u32
+        ensures { result ≡ self.now.store.calls }
+    {
+        self.store.calls()
+    }
+
+    /// How many bytes are gathered to be written.
+    pub fn gathered(&self) -> usize
+        ensures { result ≡ length self.now.out.items }
+    {
+        self.out.len()
+    }
+
+    /// Does what the line says, which was given without its line feed, and gathers what it prints.
+    pub fn take_line(&mut self, line: &[u8]) -> Result<(), Stop>
+        requires { IsGoing self.old }
+        ensures ok { OnOk result ((rest : List (List ℕ)) → outlook self.old (line.now ∷ rest) ≡ outlook self.new rest) }
+        ensures going { OnOk result (IsGoing self.new) }
+        ensures next { OnOk result (self.new.parser.taken ≡ self.old.parser.taken + 1) }
+        ensures within { OnOk result (self.new.parser.taken ≤ 2097152) }
+        ensures err { IfErr result (λ stop. (rest : List (List ℕ)) → StopsAt stop self.new.out.items (outlook self.old (line.now ∷ rest))) }
+        ensures cause { IfErr result IsOfScript }
+    {
+        match self.parser.line(line) {
+            Ok(None) => Ok(()),
+            Ok(Some(item)) => match self.run(item) {
+                Ok(()) => Ok(()),
+                Err(_) => Err(Stop::NoMemory),
+            },
+            Err(ScriptFault::BadLine { line }) => Err(Stop::BadLine { line }),
+            Err(ScriptFault::TooLong) => Err(Stop::TooManyLines),
+            Err(ScriptFault::NoMemory) => Err(Stop::NoMemory),
+        }
+    }
+
+    /// Does an item and gathers what it prints.
+    fn run(&mut self, item: Item) -> Result<(), AllocError>
+        requires room { self.old.store.calls < 4194304 }
+        requires plain { IsPlain (command_in item) }
+        ensures parser { self.new.parser ≡ self.old.parser }
+        ensures held { OnOk result (self.new.store ≡ held_after self.old.store (command_in item)) }
+        ensures printed { OnOk result (self.new.out.items ≡ self.old.out.items ++ printed self.old.store (command_in item)) }
+        ensures err { OnErr result (self.new.out.items ≡ self.old.out.items) }
+    {
+        match item {
+            Item::One(command) => self.obey(&command),
+        }
+    }
+
+    /// Makes the command's call and gathers what it prints.
+    fn obey(&mut self, command: &Command) -> Result<(), AllocError>
+        requires room { self.old.store.calls < 4194304 }
+        requires plain { IsPlain command.now }
+        ensures parser { self.new.parser ≡ self.old.parser }
+        ensures held { OnOk result (self.new.store ≡ held_after self.old.store command.now) }
+        ensures printed { OnOk result (self.new.out.items ≡ self.old.out.items ++ printed self.old.store command.now) }
+        ensures err { OnErr result (self.new.out.items ≡ self.old.out.items) }
+    {
+        match *command {
+            Command::Write(write) => {
+                let reply = make_write(&mut self.store, write)?;
+                print_reply(&mut self.out, command, &reply)
+            }
+            Command::Checkpoint => {
+                let reply = self.store.checkpoint()?;
+                print_reply(&mut self.out, command, &reply)
+            }
+            Command::Read { at, what } => match self.store.look(at) {
+                Reply::Snapshot { number } => self.read(command, number, what),
+                reply => print_reply(&mut self.out, command, &reply),
+            },
+        }
+    }
+
+    /// Reads the graph of the number.
+    fn read(&mut self, command: &Command, number: u32, what: Read) -> Result<(), AllocError>
+        requires { number ≤ newest_of empty_opening self.old.store.standing }
+        ensures parser { self.new.parser ≡ self.old.parser }
+        ensures store { self.new.store ≡ self.old.store }
+        ensures printed { OnOk result (self.new.out.items ≡ self.old.out.items ++ read_lines (graph_of empty_opening self.old.store.standing number) number what) }
+        ensures err { OnErr result (self.new.out.items ≡ self.old.out.items) }
+    {
+        match what {
+            Read::Row { v } => self.read_row(command, number, v),
+        }
+    }
+
+    /// Reads the row of a vertex.
+    fn read_row(&mut self, command: &Command, number: u32, v: u32) -> Result<(), AllocError>
+        requires { number ≤ newest_of empty_opening self.old.store.standing }
+        ensures parser { self.new.parser ≡ self.old.parser }
+        ensures store { self.new.store ≡ self.old.store }
+        ensures printed { OnOk result (self.new.out.items ≡ self.old.out.items ++ read_lines (graph_of empty_opening self.old.store.standing number) number (Row v)) }
+        ensures err { OnErr result (self.new.out.items ≡ self.old.out.items) }
+    {
+        let graph = self.store.graph(number);
+        let count = graph.count();
+        if v < count {
+            print_row(&mut self.out, number, &graph, v)
+        } else {
+            let refusal = Refusal::UnknownVertex { vertex: v, count };
+            print_reply(&mut self.out, command, &Reply::Refused(refusal))
+        }
+    }
+}
+
+/// Makes a write that the plain store answers.
+fn make_write(store: &mut PlainStore, write: Write) -> Result<Reply, AllocError>
+    requires room { store.old.calls < 4194304 }
+    requires plain { IsPlain (Writes write) }
+    ensures reply { IfOk result (λ r. r ≡ reply_at empty_opening store.old.standing (WriteCall write)) }
+    ensures after { OnOk result (store.new ≡ called store.old (WriteCall write)) }
+{
+    match write {
+        Write::Vertices(n) => Ok(store.add_vertices(n)),
+        Write::Add(u, v, w) => store.add_edge(u, v, w),
+        Write::Remove(_, _) | Write::Weigh(_, _, _) => unreachable!(),
+    }
+}

@@ -1,0 +1,182 @@
+//! A run of a script, from its bytes to the printed bytes.
+
+ghost use Rattle.std.specs.Prelude.{◌≡◌, ◌<◌, ◌≤◌, ◌^◌, ◌⊎◌, [], ◌++◌, ℕ, List, OnOk, OnErr, Err, length, decimal, codes};
+ghost use Rattle.lama_base.specs.Faults.{Rose};
+ghost use Rattle.lama_model.specs.Lines.{usage_line};
+ghost use Rattle.llama_main.specs.Stops.{IsFront, Appends};
+ghost use Rattle.llama_main.specs.Ending.{last_text};
+ghost use Rattle.llama_main.specs.Hearing.{Heard, status_of, Ran};
+ghost use Rattle.llama_main.specs.Talk.{IsTalking};
+
+use crate::session::Session;
+use crate::status::Status;
+use crate::stop::Stop;
+use crate::writing::flush;
+use itoa::Buffer;
+use lama_base::{Sink, Source};
+use std::alloc::{AllocError, Global};
+
+/// So many bytes are read at a time.
+const PIECE: usize = 65_536;
+
+/// Reads the script to its end or to where it stops. Answers are written before each read.
+fn converse<S: Source, K: Sink>(
+    source: &mut S,
+    sink: &mut K,
+    session: &mut Session,
+    buf: &mut [u8],
+) -> Result<(), Stop>
+    requires talking { IsTalking session.old }
+    requires room { 0 < length buf.old }
+    ensures heard { Heard (S.left source.old) (S.left source.new) (K.written sink.old) (K.written sink.new) session.old session.new.interpreter.out.items session.new.interpreter.store.calls result }
+    ensures read_cause { result ≡ Err Stop.ReadFault → Rose (S.faults source.old) (S.faults source.new) }
+    ensures write_cause { result ≡ Err Stop.WriteFault → Rose (K.faults sink.old) (K.faults sink.new) }
+    ensures read_steady { S.faults source.old ≤ S.faults source.new }
+    ensures write_steady { K.faults sink.old ≤ K.faults sink.new }
+    ensures read_bounded { S.faults source.old < 2 ^ 64 → S.faults source.new < 2 ^ 64 }
+    ensures write_bounded { K.faults sink.old < 2 ^ 64 → K.faults sink.new < 2 ^ 64 }
+{
+    'pieces: loop {
+        match session.write_all(sink) {
+            Ok(()) => {}
+            Err(stop) => return Err(stop),
+        }
+        let n = match source.read(buf) {
+            Ok(n) => n,
+            Err(_) => return Err(Stop::ReadFault),
+        };
+        if n == 0 {
+            return session.take_last();
+        }
+        match session.take_piece(sink, &buf[..n]) {
+            Ok(()) => {}
+            Err(stop) => return Err(stop),
+        }
+    }
+}
+
+/// Appends the last line of a status, after so many calls.
+#[tactic(auto, unfolding(lama_model::specs::Lines::last_line, lama_model::specs::Lines::usage_line))]
+fn print_last(out: &mut Vec<u8>, calls: u32, status: Status) -> Result<(), AllocError>
+    ensures ok { OnOk result (out.new.items ≡ out.old.items ++ last_text calls status) }
+    ensures err { OnErr result (out.new.items ≡ out.old.items) }
+{
+    match status {
+        Status::Done => print_number(out, b"end ", calls),
+        Status::BadLine { line } => print_number(out, b"bad line ", line),
+        Status::TooManyLines => append(out, b"too many lines\n"),
+        Status::Usage => append(out, b"usage\n"),
+        Status::ReadFault | Status::WriteFault | Status::NoMemory => Ok(()),
+    }
+}
+
+/// Appends a text.
+fn append(out: &mut Vec<u8>, text: &[u8]) -> Result<(), AllocError>
+    ensures ok { OnOk result (out.new.items ≡ out.old.items ++ text.now) }
+    ensures err { OnErr result (out.new.items ≡ out.old.items) }
+{
+    out.extend_from_slice(text)
+}
+
+/// Appends a line that is a text and a number.
+fn print_number(out: &mut Vec<u8>, text: &[u8], number: u32) -> Result<(), AllocError>
+    requires { length text.now ≤ 16 }
+    ensures ok { OnOk result (out.new.items ≡ out.old.items ++ (text.now ++ decimal number ++ codes "\n")) }
+    ensures err { OnErr result (out.new.items ≡ out.old.items) }
+{
+    let len = out.len();
+    match append_number(out, text, number) {
+        Ok(()) => Ok(()),
+        Err(fault) => {
+            out.truncate(len);
+            Err(fault)
+        }
+    }
+}
+
+/// Appends such a line, or a front of it.
+fn append_number(out: &mut Vec<u8>, text: &[u8], number: u32) -> Result<(), AllocError>
+    ensures ok { OnOk result (out.new.items ≡ out.old.items ++ (text.now ++ decimal number ++ codes "\n")) }
+    ensures err { OnErr result (IsFront out.old.items out.new.items) }
+{
+    out.extend_from_slice(text)?;
+    let mut buffer = Buffer::new();
+    out.extend_from_slice(buffer.format(number).as_bytes())?;
+    out.extend_from_slice(b"\n")
+}
+
+/// Writes what was gathered and the last line of a status. Says how the run ends: so, or by a fault of the sink.
+fn conclude<K: Sink>(sink: &mut K, out: &mut Vec<u8>, calls: u32, status: Status) -> Status
+    ensures ends { ((result ≡ status) × Appends (K.written sink.old) (K.written sink.new) (out.old.items ++ last_text calls status))
+        ⊎ ((said : List ℕ) × Appends (K.written sink.old) (K.written sink.new) said × IsFront said (out.old.items ++ last_text calls status) × ((result ≡ Status.WriteFault) ⊎ (result ≡ Status.NoMemory))) }
+    ensures cause { result ≡ Status.WriteFault → (result ≡ status) ⊎ Rose (K.faults sink.old) (K.faults sink.new) }
+    ensures steady { K.faults sink.old ≤ K.faults sink.new }
+    ensures bounded { K.faults sink.old < 2 ^ 64 → K.faults sink.new < 2 ^ 64 }
+{
+    let printed = print_last(out, calls, status);
+    match flush(sink, out) {
+        Ok(()) => match printed {
+            Ok(()) => status,
+            Err(_) => Status::NoMemory,
+        },
+        Err(Stop::WriteFault) => Status::WriteFault,
+        Err(_) => Status::NoMemory,
+    }
+}
+
+/// Reads the script of the source to its end or to where it stops.
+fn hear<S: Source, K: Sink>(
+    alloc: Global,
+    source: &mut S,
+    sink: &mut K,
+    session: &mut Session,
+) -> Result<(), Stop>
+    requires talking { IsTalking session.old }
+    requires none { session.old.interpreter.out.items ≡ [] }
+    ensures heard { Heard (S.left source.old) (S.left source.new) (K.written sink.old) (K.written sink.new) session.old session.new.interpreter.out.items session.new.interpreter.store.calls result }
+    ensures read_cause { result ≡ Err Stop.ReadFault → Rose (S.faults source.old) (S.faults source.new) }
+    ensures write_cause { result ≡ Err Stop.WriteFault → Rose (K.faults sink.old) (K.faults sink.new) }
+    ensures write_steady { K.faults sink.old ≤ K.faults sink.new }
+    ensures write_bounded { K.faults sink.old < 2 ^ 64 → K.faults sink.new < 2 ^ 64 }
+{
+    match vec![in alloc; 0u8; PIECE] {
+        Ok(mut piece) => converse(source, sink, session, &mut piece),
+        Err(_) => Err(Stop::NoMemory),
+    }
+}
+
+/// Runs the script of the source.
+pub fn run_script<S: Source, K: Sink>(alloc: Global, source: &mut S, sink: &mut K) -> Status
+    ensures ran { Ran (S.left source.old) (S.left source.new) (K.written sink.old) (K.written sink.new) result }
+    ensures read_cause { result ≡ Status.ReadFault → Rose (S.faults source.old) (S.faults source.new) }
+    ensures write_cause { result ≡ Status.WriteFault → Rose (K.faults sink.old) (K.faults sink.new) }
+{
+    let mut session = Session::new(alloc);
+    let answer = hear(alloc, source, sink, &mut session);
+    let calls = session.interpreter.calls();
+    let status = status_after(answer);
+    conclude(sink, &mut session.interpreter.out, calls, status)
+}
+
+/// Says that the words are not in the grammar.
+pub fn refuse_words<K: Sink>(alloc: Global, sink: &mut K) -> Status
+    ensures ends { ((result ≡ Status.Usage) × Appends (K.written sink.old) (K.written sink.new) usage_line)
+        ⊎ ((said : List ℕ) × Appends (K.written sink.old) (K.written sink.new) said × IsFront said usage_line × ((result ≡ Status.WriteFault) ⊎ (result ≡ Status.NoMemory))) }
+    ensures cause { result ≡ Status.WriteFault → Rose (K.faults sink.old) (K.faults sink.new) }
+{
+    conclude(sink, &mut Vec::new(alloc), 0, Status::Usage)
+}
+
+/// The status of a run that answered so.
+fn status_after(answer: Result<(), Stop>) -> Status
+    ensures { result ≡ status_of answer }
+{
+    match answer {
+        Ok(()) => Status::Done,
+        Err(Stop::BadLine { line }) => Status::BadLine { line },
+        Err(Stop::TooManyLines) => Status::TooManyLines,
+        Err(Stop::ReadFault) => Status::ReadFault,
+        Err(Stop::WriteFault) => Status::WriteFault,
+        Err(Stop::NoMemory) => Status::NoMemory,
+    }
+}
