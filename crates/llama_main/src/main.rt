@@ -11,6 +11,8 @@ mod session;
 pub mod status;
 mod stop;
 mod store;
+#[cfg(test)]
+mod tests;
 mod writing;
 
 use lama_outside::{NoGate, StdSink, StdSource};

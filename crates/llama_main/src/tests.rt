@@ -1,0 +1,178 @@
+ghost use Rattle.std.specs.Prelude.{◌≡◌};
+
+use crate::run_llama::run_llama;
+use crate::status::Status;
+use lama_base::limits::{MAX_LINE_BYTES, MAX_LINES};
+use lama_outside::{MemSink, MemSource, NoGate};
+use lama_pages::Steps;
+use std::alloc::AllocError;
+use std::marker::Brand;
+use std::process::Abort;
+use std::sync::ledger::{Blank, Ledger};
+use std::test::Fail;
+
+/// Runs the script of the source, which counts the pages in the ledger that the blank opens.
+fn run<L: Ledger, R: AllocGlobal>(
+    rt: &R,
+    words: &[String],
+    source: &mut MemSource,
+    sink: &mut MemSink,
+    blank: Blank,
+) -> Status
+    requires name { blank.name ≡ L.name }
+    requires parts { blank.parts ≡ L.parts }
+    requires one { blank.parts ≡ 1 }
+{
+    let mut pages: Steps<L> = Steps::open(blank);
+    run_llama(rt, rt.alloc(), words, source, sink, &NoGate, &mut pages).status
+}
+
+/// Runs a script without words, in so many bytes at a time. Reads and writes of these numbers fail.
+fn run_script<R: AllocGlobal>(
+    rt: &R,
+    script: &[u8],
+    most: usize,
+    bad_reads: &[u32],
+    bad_writes: &[u32],
+) -> Result<(Status, Vec<u8>), AllocError> {
+    let alloc = rt.alloc();
+    let mut source = MemSource::new(
+        Vec::from_slice(alloc, script)?,
+        most,
+        Vec::from_slice(alloc, bad_reads)?,
+    );
+    let mut sink = MemSink::new(Vec::new(alloc), most, Vec::from_slice(alloc, bad_writes)?);
+    let words = Vec::new(alloc);
+    let status = run::<Brand, R>(rt, &words, &mut source, &mut sink, Blank::new(1));
+    let text = Vec::from_slice(alloc, sink.bytes())?;
+    Ok((status, text))
+}
+
+/// The script gives this text and ends so, whatever the sizes of reads and writes are.
+fn gives<R: AllocGlobal + Abort>(
+    rt: &R,
+    script: &[u8],
+    text: &[u8],
+    status: Status,
+) -> Result<(), Fail> {
+    for most in [1, 3, 1_000_000] {
+        let (ended, written) = run_script(rt, script, most, &[], &[])?;
+        assert_eq!(rt; ended, status);
+        assert_eq!(rt; written.as_slice(), text);
+    }
+    Ok(())
+}
+
+#[test]
+fn scripts_give_their_texts(rt: HostRuntime) -> Result<(), Fail> {
+    let done: [(&[u8], &[u8]); 6] = [
+        (b"", b"end 0\n"),
+        (
+            b"vertices 3\nadd 0 1\nadd 0 2\ncheckpoint\nrow 0\n",
+            b"vertices 3\nsnapshot 1\nrow 1 0 : 2/1 1/1\nend 5\n",
+        ),
+        (b"row 0\n", b"unknown vertex 0 of 0\nend 1\n"),
+        (
+            b"vertices 2\ncheckpoint\nadd 0 1\nrow 0\n",
+            b"vertices 2\nsnapshot 1\nrow 1 0 :\nend 4\n",
+        ),
+        (
+            b"vertices 3\nvertices 4194304\n",
+            b"vertices 3\nfull vertices\nend 2\n",
+        ),
+        // The first vertex is refused before the second, and a last line without its line feed counts.
+        (
+            b"vertices 1\nadd 5 6\nadd 0 2 9\nrow 1",
+            b"vertices 1\nunknown vertex 5 of 1\nunknown vertex 2 of 1\nunknown vertex 1 of 0\nend 4\n",
+        ),
+    ];
+    for (script, text) in done {
+        gives(&rt, script, text, Status::Done)?;
+    }
+    Ok(())
+}
+
+#[test]
+fn a_bad_line_is_named(rt: HostRuntime) -> Result<(), Fail> {
+    gives(&rt, b"x\n", b"bad line 1\n", Status::BadLine { line: 1 })?;
+    let text = b"vertices 1\nbad line 2\n";
+    gives(
+        &rt,
+        b"vertices 1\npar\nlane\n",
+        text,
+        Status::BadLine { line: 2 },
+    )
+}
+
+#[test]
+fn a_line_is_judged_after_its_length(rt: HostRuntime) -> Result<(), Fail> {
+    let mut line = vec![in rt.alloc(); b'#'; MAX_LINE_BYTES - 1]?;
+    line.push(b'\r')?;
+    gives(&rt, &line, b"end 0\n", Status::Done)?;
+    // With one byte more the line is too long, though the carriage return at its end is dropped.
+    line.push(b'\r')?;
+    gives(&rt, &line, b"bad line 1\n", Status::BadLine { line: 1 })
+}
+
+#[test]
+fn the_last_line_that_is_taken(rt: HostRuntime) -> Result<(), Fail> {
+    let mut script = vec![in rt.alloc(); b'\n'; MAX_LINES as usize]?;
+    let (status, text) = run_script(&rt, &script, 1_000_000, &[], &[])?;
+    assert_eq!(rt; status, Status::Done);
+    assert_eq!(rt; text.as_slice(), b"end 0\n".as_slice());
+    script.push(b'#')?;
+    let (status, text) = run_script(&rt, &script, 1_000_000, &[], &[])?;
+    assert_eq!(rt; status.code(), 10);
+    assert_eq!(rt; text.as_slice(), b"too many lines\n".as_slice());
+    Ok(())
+}
+
+#[test]
+fn faults_cut_the_text_short(rt: HostRuntime) -> Result<(), Fail> {
+    let (status, text) = run_script(&rt, b"vertices 1\n", 64, &[1], &[])?;
+    assert_eq!(rt; status.code(), 4);
+    assert_eq!(rt; text.as_slice(), b"vertices 1\n".as_slice());
+    let (status, text) = run_script(&rt, b"", 64, &[], &[0])?;
+    assert_eq!(rt; status.code(), 5);
+    assert_eq!(rt; text.len(), 0);
+    Ok(())
+}
+
+#[test]
+fn so_many_snapshots_are_kept(rt: HostRuntime) -> Result<(), Fail> {
+    let mut script = Vec::new(rt.alloc());
+    for _ in 0..4096 {
+        script.extend_from_slice(b"checkpoint\n")?;
+    }
+    let (status, text) = run_script(&rt, &script, 1_000_000, &[], &[])?;
+    assert_eq!(rt; status, Status::Done);
+    assert!(rt; text.as_slice().starts_with(b"snapshot 1\nsnapshot 2\n"));
+    assert!(rt;
+        text.as_slice()
+            .ends_with(b"\nsnapshot 4095\nfull snapshots\nend 4096\n")
+    );
+    Ok(())
+}
+
+/// Words that are not in the grammar are refused, and nothing is read.
+fn refuses<R: AllocGlobal + Abort>(rt: &R, list: &[&str]) -> Result<(), Fail> {
+    let alloc = rt.alloc();
+    let mut words = Vec::new(alloc);
+    for word in list {
+        words.push(String::from_str(alloc, word)?)?;
+    }
+    let mut source = MemSource::new(Vec::from_slice(alloc, b"row 0\n")?, 4, Vec::new(alloc));
+    let mut sink = MemSink::new(Vec::new(alloc), 2, Vec::new(alloc));
+    let status = run::<Brand, R>(rt, &words, &mut source, &mut sink, Blank::new(1));
+    assert_eq!(rt; status.code(), 2);
+    assert_eq!(rt; sink.bytes(), b"usage\n".as_slice());
+    assert_eq!(rt; source.bytes(), b"row 0\n".as_slice());
+    Ok(())
+}
+
+#[test]
+fn words_are_refused_and_nothing_is_read(rt: HostRuntime) -> Result<(), Fail> {
+    refuses(&rt, &["--workers", "17"])?;
+    refuses(&rt, &["--open", "--load", "x"])?;
+    refuses(&rt, &["--"])
+}
