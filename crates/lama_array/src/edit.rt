@@ -1,4 +1,4 @@
-ghost use Rattle.std.specs.Prelude.{◌≡◌, ℕ, ◌+◌, ◌*◌, ◌/◌, ◌%◌, ◌<◌, ◌≤◌, ◌&&◌, ◌||◌, ◌++◌, ◌==◌, [], ◌∷◌, IfOk, OnErr, OnOk, false, if◌then◌else◌, is_ok, length, not, replicate, slice_index_or, slice_set, true};
+ghost use Rattle.std.specs.Prelude.{◌≡◌, ℕ, ◌+◌, ◌/◌, ◌%◌, ◌<◌, ◌≤◌, ◌&&◌, ◌++◌, [], ◌∷◌, IfOk, OnErr, OnOk, if◌then◌else◌, is_ok, length, not, replicate, slice_index_or, slice_set, true};
 ghost use Rattle.lama_array.specs.Draft.{owns};
 
 use crate::VArray;

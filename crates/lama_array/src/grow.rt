@@ -1,5 +1,5 @@
 // Pages at the end of an edit's list of pages.
-ghost use Rattle.std.specs.Prelude.{◌≡◌, ℕ, ◌+◌, ◌-◌, ◌*◌, ◌/◌, ◌<◌, ◌≤◌, ◌++◌, [], ◌∷◌, OnErr, OnOk, false, if◌then◌else◌, is_ok, length, map, replicate, slice_index_or, slice_set, take, true, vec_len};
+ghost use Rattle.std.specs.Prelude.{◌≡◌, ℕ, ◌+◌, ◌-◌, ◌/◌, ◌<◌, ◌≤◌, ◌++◌, [], ◌∷◌, OnErr, OnOk, false, map, replicate, slice_index_or, slice_set, take, true, vec_len};
 ghost use Rattle.std.specs.Arc.{arc_value};
 ghost use Rattle.lama_array.specs.Held.{is_own, records_of};
 ghost use Rattle.lama_array.specs.Paged.{IsPaged, joined};

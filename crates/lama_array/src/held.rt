@@ -1,5 +1,5 @@
 // A page as an edit holds it.
-ghost use Rattle.std.specs.Prelude.{◌≡◌, ◌+◌, ◌-◌, ◌<◌, ◌≤◌, ◌&&◌, ◌++◌, IfOk, OnErr, OnOk, false, if◌then◌else◌, is_ok, length, not, replicate, slice_set, take, true};
+ghost use Rattle.std.specs.Prelude.{◌≡◌, ◌+◌, ◌-◌, ◌<◌, ◌&&◌, ◌++◌, IfOk, OnErr, OnOk, if◌then◌else◌, is_ok, not, replicate, slice_set, take, true};
 ghost use Rattle.std.specs.Arc.{arc_value};
 ghost use Rattle.lama_array.specs.Held.{is_own, records_of};
 

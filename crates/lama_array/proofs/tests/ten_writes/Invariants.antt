@@ -7,5 +7,5 @@ invariant-loop-i g l = record {
   room : 256 ≤ length l.edit.items;
   none : l.i ≡ 0 → l.pages ≡ l.initial.pages;
   one : 0 < l.i → owns l.edit 0 ≡ true;
-  made : l.pages ≤ l.initial.pages + 1
+  made : l.pages ≤ l.initial.pages + 1;
 }
