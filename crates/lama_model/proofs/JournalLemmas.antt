@@ -96,9 +96,6 @@ cut-more o s e journal rest n at some place below = elim (cases_Bool (is_made o 
   | inr f ↦ same f
 ]
   where
-    next : Standing
-    next = after o s e.call
-
     stops : is_made o s e.call ≡ true → leb n 1 ≡ true → n ≤ 1 → get_or (run o s (e ∷ journal)).made at no_graph ≡ (run o s (before_made o s n (e ∷ journal))).graph
     stops t last le =
         let l = length-more o s e.call t in
