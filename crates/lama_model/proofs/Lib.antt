@@ -3,3 +3,4 @@ pub mod EdgeLemmas
 pub mod FillLemmas
 pub mod PlainLemmas
 pub mod ViewLemmas
+pub mod JournalLemmas

@@ -3,7 +3,7 @@ use Rattle.std.specs.Prelude.{ℕ, List, [], ◌∷◌, map}
 use Rattle.lama_base.specs.declared.Edge.{Edge}
 use Rattle.lama_model.specs.Text.{entry}
 use Rattle.lama_model.specs.declared.calls.Write.TheVariants.{Vertices, Add, Remove, Weigh}
-use Rattle.lama_model.specs.declared.calls.Call.TheVariants.{Write as Writes, Checkpoint, Look, LookAt, Install, Retire}
+use Rattle.lama_model.specs.declared.calls.Call.TheVariants.{Write as Writes, Checkpoint, Install}
 use Rattle.lama_model.specs.declared.calls.Entry.{Entry}
 
 abbrev pub edge : ℕ → ℕ → ℕ → Edge

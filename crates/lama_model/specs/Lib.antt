@@ -8,3 +8,4 @@ pub mod Lines
 pub mod Text
 pub mod Examples
 pub mod Packed
+pub mod Laws

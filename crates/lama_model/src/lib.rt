@@ -1,7 +1,8 @@
 //! The model: graphs as lists of edges, journals of calls, and what each call is answered.
 //!
 //! The definitions are in `specs/`, in words of lists of edges and journals alone. This crate has the
-//! types of the calls and answers that they speak of, and worked examples that are proved by computation.
+//! types of the calls and answers that they speak of, worked examples that are proved by computation, and
+//! laws on every journal.
 #![tactic(auto)]
 
 pub mod adjacency;
@@ -9,6 +10,7 @@ pub mod answers;
 pub mod calls;
 pub mod commands;
 pub mod examples;
+pub mod laws;
 pub mod plain_rows;
 
 pub use adjacency::Rows;
