@@ -1,10 +1,10 @@
 -- A conversation over the source and the sink, piece by piece, and what it says of the script.
-use Rattle.std.proofs.Common.{◌≡◌, ◌≢◌, ℕ, ◌+◌, ◌<◌, ◌≤◌, List, [], ◌∷◌, ◌++◌, length, take, refl, sym, ap, subst, ◌∙◌, arith, Option, Some, None, Result, Ok, Err, ◌⊎◌, inl, inr}
+use Rattle.std.proofs.Common.{◌≡◌, ℕ, ◌+◌, ◌<◌, List, [], ◌++◌, length, take, refl, sym, ap, subst, ◌∙◌, Option, Result, Ok, Err, ◌⊎◌, inl, inr}
 use Rattle.std.specs.Prelude.{OnOk, IfErr}
 use Rattle.std.proofs.lemmas.List.{append-nil, append_assoc}
 use Rattle.lama_base.specs.Bytes.{Gives}
 use Rattle.lama_model.specs.Opening.{empty_opening}
-use Rattle.lama_model.specs.Script.{End, lines, script}
+use Rattle.lama_model.specs.Script.{End, lines}
 use Rattle.lama_model.specs.Script.End.{Whole, BadAt, TooMany}
 use Rattle.lama_model.specs.Lines.{last_line}
 use Rattle.lama_model.specs.Text.{text}
@@ -13,7 +13,7 @@ use Rattle.llama_main.specs.declared.stop.Stop.TheVariants.{BadLine, TooManyLine
 use Rattle.llama_main.specs.declared.status.Status.{Status}
 use Rattle.llama_main.specs.declared.status.Status.TheVariants as statuses
 use Rattle.llama_main.specs.declared.session.Session.{Session}
-use Rattle.llama_main.specs.Outlook.{Outcome, outcome, behind, ended, outlook_at}
+use Rattle.llama_main.specs.Outlook.{Outcome, outcome, behind, outlook_at}
 use Rattle.llama_main.specs.Stops.{IsFront, Appends, Gave, HasEnded, StopsAt, last_of}
 use Rattle.llama_main.specs.Going.{outlook}
 use Rattle.llama_main.specs.Talk.{foreseen, Wrote, Stopped}

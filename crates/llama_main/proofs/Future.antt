@@ -1,17 +1,16 @@
 -- What is foreseen at the start is the outcome, and how it goes on line by line.
-use Rattle.std.proofs.Common.{◌≡◌, ℕ, ◌+◌, ◌<◌, ◌≤◌, Bool, true, false, cond, List, [], ◌∷◌, ◌++◌, length, map, refl, sym, ap, subst, ◌∙◌, arith}
-use Rattle.std.specs.Prelude.{fold, nat_lt}
-use Rattle.std.proofs.lemmas.List.{append-nil, append_assoc, length-append}
+use Rattle.std.proofs.Common.{◌≡◌, ℕ, ◌+◌, ◌<◌, ◌≤◌, Bool, true, false, cond, List, [], ◌∷◌, ◌++◌, length, refl, ap, ◌∙◌, arith}
+use Rattle.std.specs.Prelude.{nat_lt}
+use Rattle.std.proofs.lemmas.List.{append_assoc, length-append}
 use Rattle.std.proofs.lemmas.List.Sums.{fold-append}
 use Rattle.std.proofs.lemmas.Bool.Decides.{nat_tests}
 use Rattle.lama_model.specs.Opening.{empty_opening}
-use Rattle.lama_model.specs.Journal.{Standing, standing, after, begun, reply_at, graph_of, reply, graph}
-use Rattle.lama_model.specs.Script.{Meaning, Item, End, Script, meaning, meaning_of_words, words, without_return, script, script_from, lines, with_line}
+use Rattle.lama_model.specs.Journal.{Standing, standing, after, begun, reply}
+use Rattle.lama_model.specs.Script.{Meaning, Script, meaning, meaning_of_words, words, without_return, script_from, lines, with_line}
 use Rattle.lama_model.specs.Script.Meaning.{Skipped, Says, Bad}
-use Rattle.lama_model.specs.Script.Item.{One}
-use Rattle.lama_model.specs.Script.End.{Whole, BadAt, TooMany}
-use Rattle.lama_model.specs.Lines.{last_line, reply_line}
-use Rattle.lama_model.specs.Text.{Told, tell, text, text_of, entry, journal_after, calls_of, lines_of, reading_lines, look_of}
+use Rattle.lama_model.specs.Script.End.{Whole, TooMany}
+use Rattle.lama_model.specs.Lines.{last_line}
+use Rattle.lama_model.specs.Text.{tell, text, text_of, entry, journal_after, lines_of, reading_lines, look_of}
 use Rattle.lama_model.specs.declared.calls.Call.{Call}
 use Rattle.lama_model.specs.declared.calls.Entry.{Entry}
 use Rattle.lama_model.specs.declared.commands.Command.{Command}
@@ -20,7 +19,7 @@ use Rattle.lama_model.specs.declared.commands.Read.{Read}
 use Rattle.lama_model.specs.declared.answers.Reply.{Reply}
 use Rattle.lama_model.specs.declared.answers.Reply.TheVariants.{Accepted, Count, Snapshot, Kept, Refused}
 use Rattle.llama_main.specs.Store.{Held, held, called}
-use Rattle.llama_main.specs.Outlook.{Outcome, outcome, behind, ended, call_of, held_after, printed, printed_reading, following, outlook_at}
+use Rattle.llama_main.specs.Outlook.{Outcome, outcome, behind, ended, held_after, printed, printed_reading, following, outlook_at}
 
 -- what is held after this journal
 abbrev held_by : List Entry → Held

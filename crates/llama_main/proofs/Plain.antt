@@ -1,5 +1,5 @@
 -- What a line says is a command that the plain store answers.
-use Rattle.std.proofs.Common.{◌≡◌, ℕ, Bool, true, false, cond, List, [], ◌∷◌, length, refl, sym, ap, subst, ◌∙◌, Option, Some, None, option_map}
+use Rattle.std.proofs.Common.{◌≡◌, ℕ, Bool, true, false, cond, List, [], ◌∷◌, length, subst, Option, Some, None, option_map}
 use Rattle.std.specs.Prelude.{nat_lt, bytes_eq, codes, IfSome}
 use Rattle.lama_model.specs.Script.{Meaning, meaning, meaning_of_words, said_or_bad, command_of, vertices_command, add_command, add_of, checkpoint_command, row_command, number, words, without_return, is_comment}
 use Rattle.lama_model.specs.Script.Meaning.{Skipped, Says, Bad}

@@ -1,10 +1,9 @@
 -- The rows of a list of edges, edge by edge.
-use Rattle.std.proofs.Common.{◌≡◌, ℕ, ◌+◌, ◌<◌, ◌≤◌, List, [], ◌∷◌, ◌++◌, length, get_or, take, reverse, map, cond, eqb, refl, sym, ap, subst, ◌∙◌, Bool, true, false, arith}
+use Rattle.std.proofs.Common.{◌≡◌, ℕ, ◌+◌, ◌<◌, List, [], ◌∷◌, ◌++◌, length, get_or, take, reverse, map, cond, eqb, refl, sym, ap, subst, ◌∙◌, Bool, true, false, arith}
 use Rattle.std.specs.Prelude.{filter, All}
 use Rattle.std.specs.List.{range_with_len, AllByRecursion}
-use Rattle.std.proofs.lemmas.Bool.Decides.{nat_tests}
 use Rattle.std.proofs.lemmas.List.{take_more, map-append, reverse-append}
-use Rattle.std.proofs.lemmas.List.Elements.{filter-append, All-filter, All-map, All-push, All-nil, All-from_recursion, recursion_from_All}
+use Rattle.std.proofs.lemmas.List.Elements.{filter-append, All-filter, All-map, All-push, All-nil, recursion_from_All}
 use Rattle.std.proofs.lemmas.List.FromFn.{length-map-range_with_len, get_or-map-range_with_len}
 use Rattle.lama_base.specs.declared.Edge.{Edge}
 use Rattle.lama_model.specs.Row.{leaving, row_at, AreTargetsBelow}

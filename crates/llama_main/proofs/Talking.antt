@@ -1,19 +1,17 @@
 -- What is foreseen when bytes come in pieces.
-use Rattle.std.proofs.Common.{◌≡◌, ◌≢◌, ℕ, ◌+◌, ◌-◌, ◌*◌, ◌<◌, ◌≤◌, Bool, true, false, cond, List, [], ◌∷◌, ◌++◌, length, get_or, take, drop, refl, sym, ap, subst, ◌∙◌, arith, Option, Some, None, add-one, drop-cons, eqb}
+use Rattle.std.proofs.Common.{◌≡◌, ℕ, ◌+◌, ◌<◌, ◌≤◌, true, false, List, [], ◌∷◌, ◌++◌, length, get_or, take, drop, refl, sym, ap, subst, ◌∙◌, arith, Option, add-one, drop-cons, eqb}
 use Rattle.std.proofs.lemmas.Bool.Decides.{nat_tests}
-use Rattle.std.specs.Prelude.{All}
 use Rattle.std.proofs.lemmas.List.{append-nil, append_assoc, length-append, take-append-drop}
 use Rattle.std.proofs.lemmas.List.Elements.{All-append}
-use Rattle.lama_model.specs.Opening.{empty_opening}
-use Rattle.lama_model.specs.Script.{lines, is_line_feed, End}
-use Rattle.lama_model.specs.Script.End.{Whole, BadAt, TooMany}
+use Rattle.lama_model.specs.Script.{lines, is_line_feed}
+use Rattle.lama_model.specs.Script.End.{BadAt, TooMany}
 use Rattle.lama_model.specs.Lines.{last_line}
 use Rattle.llama_main.specs.declared.stop.Stop.{Stop}
 use Rattle.llama_main.specs.declared.stop.Stop.TheVariants.{BadLine, TooManyLines, ReadFault, WriteFault, NoMemory}
 use Rattle.llama_main.specs.declared.session.Session.{Session}
 use Rattle.llama_main.specs.declared.interpreter.Interpreter.{Interpreter}
-use Rattle.llama_main.specs.Outlook.{Outcome, behind, outlook_at}
-use Rattle.llama_main.specs.Stops.{IsFront, Appends, StopsAt, HasNoFeed, last_of}
+use Rattle.llama_main.specs.Outlook.{Outcome, behind}
+use Rattle.llama_main.specs.Stops.{Appends, StopsAt, HasNoFeed, last_of}
 use Rattle.llama_main.specs.Going.{outlook}
 use Rattle.llama_main.specs.Talk.{foreseen, Wrote, Stopped}
 use Rattle.llama_main.proofs.Bytes.{Appends-none, Appends-append}

@@ -1,5 +1,5 @@
 -- What a parser's answer says of the line that it was given.
-use Rattle.std.proofs.Common.{◌≡◌, ◌≢◌, ℕ, ◌+◌, ◌<◌, ◌≤◌, Bool, true, false, cond, List, [], ◌∷◌, ◌++◌, length, refl, sym, ap, subst, ◌∙◌, arith, Option, Some, None, Result, Ok, Err}
+use Rattle.std.proofs.Common.{◌≡◌, ◌≢◌, ℕ, ◌+◌, ◌<◌, ◌≤◌, Bool, true, false, cond, List, ◌∷◌, ◌++◌, refl, sym, ap, ◌∙◌, arith, Option, Some, None, Result, Ok, Err}
 use Rattle.std.specs.Prelude.{nat_lt}
 use Rattle.std.proofs.lemmas.List.{append_assoc}
 use Rattle.std.proofs.lemmas.Bool.Decides.{nat_tests}
@@ -14,12 +14,11 @@ use Rattle.lama_script.specs.declared.item.ScriptFault.{ScriptFault}
 use Rattle.lama_script.specs.declared.item.ScriptFault.TheVariants.{BadLine, TooLong, NoMemory}
 use Rattle.lama_script.specs.Parsing.{Parsing, line_answer, line_answer_at, answer_to, after_answer}
 use Rattle.llama_main.specs.Store.{Held}
-use Rattle.llama_main.specs.Outlook.{Outcome, behind, ended, printed, held_after, following, outlook_at, IsPlain}
+use Rattle.llama_main.specs.Outlook.{Outcome, behind, printed, held_after, following, outlook_at}
 use Rattle.llama_main.specs.Stops.{last_of}
 use Rattle.llama_main.specs.Going.{command_in, outlook}
 use Rattle.llama_main.specs.declared.interpreter.Interpreter.{Interpreter}
 use Rattle.llama_main.proofs.Future.{outlook_at-line, outlook_at-many}
-use Rattle.llama_main.proofs.Plain.{IsPlain-said}
 
 -- the line is one of those that are taken, and says this
 pub record Tells (n : ℕ) (line : List ℕ) (m : Meaning) : Type 0 where

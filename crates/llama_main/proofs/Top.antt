@@ -1,5 +1,5 @@
 -- What a run says, whether its words were in the grammar or not.
-use Rattle.std.proofs.Common.{◌≡◌, ℕ, List, [], ◌∷◌, length, refl, sym, ap, subst, ◌∙◌, Option, Some, None, ◌⊎◌, inl, inr, eqb, true, false, arith}
+use Rattle.std.proofs.Common.{◌≡◌, ℕ, List, [], ◌∷◌, length, refl, sym, subst, Option, ◌⊎◌, inl, inr, eqb, true, false, arith}
 use Rattle.std.proofs.lemmas.Bool.Decides.{nat_tests}
 use Rattle.std.specs.Prelude.{IfSome}
 use Rattle.lama_model.specs.Opening.{empty_opening}
@@ -11,7 +11,7 @@ use Rattle.llama_main.specs.declared.status.Status.TheVariants as statuses
 use Rattle.llama_main.specs.Stops.{IsFront, Appends, Gave, HasEnded}
 use Rattle.llama_main.specs.Ending.{end_of, IsCut, IsOutside, Exchanges, IsText, IsSettled}
 use Rattle.llama_main.specs.Hearing.{Ran, Fits}
-use Rattle.llama_main.specs.Words.{AreInGrammar, text_under, AreRefused}
+use Rattle.llama_main.specs.Words.{text_under, AreRefused}
 use Rattle.llama_main.proofs.Bytes.{Gave-none}
 
 -- there are no words, or there are some

@@ -1,5 +1,5 @@
 -- How a run ends: its status, its last line, and what both say of the script.
-use Rattle.std.specs.Prelude.{◌≡◌, ◌⊎◌, ℕ, List, [], ◌∷◌, ◌++◌, Option, Some, None, Result, Ok, Err, ⊤}
+use Rattle.std.specs.Prelude.{◌≡◌, ◌⊎◌, ℕ, List, [], ◌++◌, Option, Some, None, ⊤}
 use Rattle.lama_model.specs.Opening.{empty_opening}
 use Rattle.lama_model.specs.Script.{End, script}
 use Rattle.lama_model.specs.Script.End.{Whole, BadAt, TooMany}
@@ -7,8 +7,8 @@ use Rattle.lama_model.specs.Lines.{last_line, usage_line}
 use Rattle.lama_model.specs.Text.{text}
 use Rattle.llama_main.specs.declared.status.Status.{Status}
 use Rattle.llama_main.specs.declared.status.Status.TheVariants.{Done, Usage, BadLine, ReadFault, WriteFault, NoMemory, TooManyLines}
-use Rattle.llama_main.specs.Outlook.{Outcome, outcome}
-use Rattle.llama_main.specs.Stops.{IsFront, Appends, Gave, HasEnded}
+use Rattle.llama_main.specs.Outlook.{outcome}
+use Rattle.llama_main.specs.Stops.{Appends, Gave, HasEnded}
 
 -- the exit status of the program
 abbrev pub code_of : Status → ℕ

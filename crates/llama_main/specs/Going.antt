@@ -1,6 +1,5 @@
 -- A run that goes on: what it is going to have written.
-use Rattle.std.specs.Prelude.{◌≡◌, ℕ, ◌+◌, ◌-◌, ◌*◌, ◌≤◌, List, ◌++◌, length}
-use Rattle.lama_model.specs.Script.{lines}
+use Rattle.std.specs.Prelude.{◌≡◌, ℕ, ◌+◌, ◌≤◌, List}
 use Rattle.lama_model.specs.Script.End.{Whole}
 use Rattle.llama_main.specs.Outlook.{Outcome, behind, outlook_at}
 use Rattle.lama_model.specs.declared.commands.Command.{Command}

@@ -1,5 +1,5 @@
 -- What a conversation over the source and the sink leaves to be written.
-use Rattle.std.specs.Prelude.{◌≡◌, ◌⊎◌, ℕ, List, ◌++◌, Option, Result, Ok, Err, ⊤}
+use Rattle.std.specs.Prelude.{◌≡◌, ◌⊎◌, ℕ, List, ◌++◌, Option, Result, Ok, Err}
 use Rattle.lama_model.specs.Opening.{empty_opening}
 use Rattle.lama_model.specs.Script.End.{Whole, BadAt, TooMany}
 use Rattle.lama_model.specs.Text.{text}
@@ -9,7 +9,7 @@ use Rattle.llama_main.specs.declared.stop.Stop.TheVariants.{BadLine, TooManyLine
 use Rattle.llama_main.specs.declared.status.Status.{Status}
 use Rattle.llama_main.specs.declared.status.Status.TheVariants as statuses
 use Rattle.llama_main.specs.declared.session.Session.{Session}
-use Rattle.llama_main.specs.Outlook.{Outcome, outcome}
+use Rattle.llama_main.specs.Outlook.{Outcome}
 use Rattle.llama_main.specs.Stops.{Gave, Appends, HasEnded, StopsAt, IsFront}
 use Rattle.llama_main.specs.Ending.{IsText, IsSettled}
 use Rattle.llama_main.specs.Talk.{foreseen, Wrote}

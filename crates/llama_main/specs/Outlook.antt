@@ -1,9 +1,8 @@
 -- What a run is going to have written, seen from a moment of it. The calls so far are known by what they leave.
 use Rattle.std.specs.Prelude.{ℕ, ◌+◌, nat_lt, if◌then◌else◌, List, [], ◌∷◌, ◌++◌}
-use Rattle.lama_model.specs.Graph.{Graph}
 use Rattle.lama_model.specs.Opening.{Opening, empty_opening}
 use Rattle.lama_model.specs.Journal.{reply_at, graph_of}
-use Rattle.lama_model.specs.Script.{End, Meaning, script, lines, meaning}
+use Rattle.lama_model.specs.Script.{End, Meaning, script, meaning}
 use Rattle.lama_model.specs.Script.End.{Whole, BadAt, TooMany}
 use Rattle.lama_model.specs.Script.Meaning.{Skipped, Says, Bad}
 use Rattle.lama_model.specs.Lines.{reply_line, last_line}

@@ -1,7 +1,7 @@
 -- Why a run stops, and what that says of the script.
-use Rattle.std.specs.Prelude.{◌≡◌, ℕ, false, List, [], ◌∷◌, ◌++◌, All, Option, IfSome, Some, None}
+use Rattle.std.specs.Prelude.{◌≡◌, ℕ, false, List, [], ◌++◌, All, Option, IfSome, Some}
 use Rattle.lama_model.specs.Script.{End, is_line_feed}
-use Rattle.lama_model.specs.Script.End.{Whole, BadAt, TooMany}
+use Rattle.lama_model.specs.Script.End.{BadAt, TooMany}
 use Rattle.lama_model.specs.Lines.{last_line}
 use Rattle.llama_main.specs.Outlook.{Outcome}
 use Rattle.llama_main.specs.declared.stop.Stop.{Stop}

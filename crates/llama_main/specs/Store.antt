@@ -1,5 +1,5 @@
 -- What the plain store holds: a list of edges, and for each checkpoint how much of it there was.
-use Rattle.std.specs.Prelude.{◌≡◌, ℕ, ◌+◌, ◌<◌, ◌≤◌, List, [], length, map, take, All}
+use Rattle.std.specs.Prelude.{ℕ, ◌+◌, ◌<◌, ◌≤◌, List, [], length, map, take, All}
 use Rattle.lama_base.specs.declared.Edge.{Edge}
 use Rattle.lama_model.specs.Graph.{Graph}
 use Rattle.lama_model.specs.Opening.{empty_opening}

@@ -1,5 +1,5 @@
 -- A run between two pieces of its script: what it is going to have written.
-use Rattle.std.specs.Prelude.{◌≡◌, ℕ, ◌+◌, ◌-◌, ◌*◌, ◌≤◌, List, ◌++◌, length, Option}
+use Rattle.std.specs.Prelude.{◌≡◌, ℕ, ◌-◌, ◌*◌, ◌≤◌, List, ◌++◌, length, Option}
 use Rattle.lama_model.specs.Script.{lines}
 use Rattle.llama_main.specs.Outlook.{Outcome, behind}
 use Rattle.llama_main.specs.Stops.{Appends, StopsAt, HasNoFeed}

@@ -1,4 +1,4 @@
-use Rattle.std.proofs.Common.{◌≡◌, ◌<◌, ◌≤◌, arith, length}
+use Rattle.std.proofs.Common.{arith}
 use Rattle.std.proofs.lemmas.Result.{IfErr-at_err, IfOk-at_ok}
 use Rattle.llama_main.proofs.Bytes.{Gave-none, Gave-gives}
 use Rattle.llama_main.proofs.Conversation.{Reached-written, Reached-piece, Heard-stopped, Heard-unread, Heard-last}

@@ -1,4 +1,4 @@
-use Rattle.std.proofs.Common.{◌≡◌, sym, subst, List, ℕ, Err}
+use Rattle.std.proofs.Common.{sym, subst, List, ℕ, Err}
 use Rattle.llama_main.specs.declared.stop.Stop.TheVariants.{NoMemory}
 use Rattle.llama_main.specs.Hearing.{Heard}
 use Rattle.llama_main.proofs.Conversation.{Heard-nothing}

@@ -1,4 +1,3 @@
-use Rattle.std.proofs.Common.{◌≡◌, ◌⊎◌, ◌∙◌, sym, ap, inl, inr}
 use Rattle.llama_main.proofs.Conversation.{Ran-concluded, concluded}
 use Rattle.llama_main.proofs.Causes.{unread_run, unwritten_run}
 use Rattle.llama_main.proofs.run.run_script.Goals as goal

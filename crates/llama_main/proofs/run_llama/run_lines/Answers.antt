@@ -1,4 +1,4 @@
-use Rattle.std.proofs.Common.{◌≡◌, ap, sym, ◌∙◌}
+use Rattle.std.proofs.Common.{ap}
 use Rattle.llama_main.proofs.Top.{text_clause, settled_clause, ended_clause, cut_clause, usage_clause, outside_status}
 use Rattle.llama_main.proofs.run_llama.run_lines.Goals as goal
 

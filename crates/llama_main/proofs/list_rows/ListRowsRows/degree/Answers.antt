@@ -1,4 +1,4 @@
-use Rattle.std.proofs.Common.{◌≡◌, ◌<◌, sym, subst, ◌∙◌, ap, length, refl, arith}
+use Rattle.std.proofs.Common.{◌<◌, sym, subst, ◌∙◌, ap, length, arith}
 use Rattle.std.proofs.lemmas.List.{take_all}
 use Rattle.llama_main.specs.ListRows.{left_of}
 use Rattle.llama_main.proofs.RowLemmas.{row_at-rows_of, length-rows_of}

@@ -1,4 +1,4 @@
-use Rattle.std.proofs.Common.{◌≡◌, ap, sym, ◌∙◌, ◌++◌}
+use Rattle.std.proofs.Common.{ap, sym, ◌∙◌, ◌++◌}
 use Rattle.lama_model.specs.Script.{lines}
 use Rattle.llama_main.specs.Going.{outlook}
 use Rattle.llama_main.proofs.Future.{outcome-outlook}

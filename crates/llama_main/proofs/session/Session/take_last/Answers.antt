@@ -1,4 +1,4 @@
-use Rattle.std.proofs.Common.{◌≡◌, ◌<◌, ◌++◌, ap, subst, sym, refl, ◌∙◌, length}
+use Rattle.std.proofs.Common.{◌<◌, subst, sym, ◌∙◌, length}
 use Rattle.std.proofs.lemmas.Result.{on_ok_weaker, IfErr-weaker}
 use Rattle.llama_main.proofs.Talking.{some_list, last-taken, last-stopped}
 use Rattle.llama_main.proofs.session.Session.take_last.Goals as goal

@@ -1,8 +1,7 @@
-use Rattle.std.proofs.Common.{◌≡◌, ◌≤◌, ◌<◌, ◌++◌, ◌∷◌, [], List, ℕ, ap, subst, sym, refl, ◌∙◌, length, arith}
+use Rattle.std.proofs.Common.{◌≡◌, ◌≤◌, ◌<◌, ◌++◌, ◌∷◌, [], ap, length, arith}
 use Rattle.std.proofs.lemmas.List.{length-append}
 use Rattle.std.proofs.lemmas.Result.{IfErr-at_err, IfErr-weaker, IfOk-at_ok}
-use Rattle.llama_main.specs.Stops.{HasNoFeed}
-use Rattle.llama_main.specs.Talk.{foreseen, room}
+use Rattle.llama_main.specs.Talk.{room}
 use Rattle.llama_main.proofs.Talking.{Wrote-line, piece-line, stop-in-line, stop-in-rest, stop-in-writing}
 use Rattle.llama_main.proofs.session.Session.take_piece.Goals as goal
 
