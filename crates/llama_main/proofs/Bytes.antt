@@ -16,9 +16,6 @@ pub Appends-append : (a b c : Option (List ℕ)) (p q : List ℕ) → Appends a 
 Appends-append None b c p q h k = tt
 Appends-append (Some x) b c p q h k = subst (λ (y : Option (List ℕ)). y ≡ Some (x ++ (p ++ q))) (sym (subst (λ (y : Option (List ℕ)). IfSome y (λ w. c ≡ Some (w ++ q))) h k ∙ ap Some (append_assoc x p q))) refl
 
-pub IsFront-whole : (xs : List ℕ) → IsFront xs xs
-IsFront-whole xs = ([], sym (append-nil xs))
-
 pub IsFront-take : (n : ℕ) (xs : List ℕ) → IsFront (take n xs) xs
 IsFront-take n xs = (drop n xs, sym (take-append-drop n xs))
 

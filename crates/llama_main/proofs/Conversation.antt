@@ -22,11 +22,7 @@ use Rattle.llama_main.specs.Hearing.{Reached, Heard, Says, whole_of, status_of, 
 use Rattle.llama_main.proofs.Bytes.{Appends-none, Appends-append, Gave-none, Gave-append, Gave-gives, HasEnded-gives, IsFront-trans, IsFront-append}
 use Rattle.llama_main.proofs.LineLemmas.{lines-nil}
 use Rattle.llama_main.proofs.Future.{outlook_at-nil}
-use Rattle.llama_main.proofs.Talking.{StopsAt-behind, Wrote-none, Stopped-after}
-
--- before anything was read
-pub Reached-none : (l w : Option (List ℕ)) (s : Session) → Reached l l w w s s
-Reached-none l w s = record { given = []; gave = Gave-none l; wrote = Wrote-none w s (Appends-none w) }
+use Rattle.llama_main.proofs.Talking.{StopsAt-behind, Stopped-after}
 
 -- one piece after another
 pub Wrote-append : (a b c : Option (List ℕ)) (s t u : Session) (p q : List ℕ) → Wrote a b s t p → Wrote b c t u q → Wrote a c s u (p ++ q)

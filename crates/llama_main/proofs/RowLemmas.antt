@@ -1,32 +1,14 @@
 -- The rows of a list of edges, edge by edge.
-use Rattle.std.proofs.Common.{◌≡◌, ℕ, ◌+◌, ◌<◌, List, [], ◌∷◌, ◌++◌, length, get_or, take, reverse, map, cond, eqb, refl, sym, ap, subst, ◌∙◌, Bool, true, false, arith}
+use Rattle.std.proofs.Common.{◌≡◌, ℕ, ◌<◌, List, [], ◌∷◌, length, reverse, eqb, sym, subst, arith}
 use Rattle.std.specs.Prelude.{filter, All}
 use Rattle.std.specs.List.{range_with_len, AllByRecursion}
-use Rattle.std.proofs.lemmas.List.{take_more, map-append, reverse-append}
-use Rattle.std.proofs.lemmas.List.Elements.{filter-append, All-filter, All-map, All-push, All-nil, recursion_from_All}
+use Rattle.std.proofs.lemmas.List.{reverse-append}
+use Rattle.std.proofs.lemmas.List.Elements.{All-filter, All-map, All-push, All-nil, recursion_from_All}
 use Rattle.std.proofs.lemmas.List.FromFn.{length-map-range_with_len, get_or-map-range_with_len}
 use Rattle.lama_base.specs.declared.Edge.{Edge}
 use Rattle.lama_model.specs.Row.{leaving, row_at, AreTargetsBelow}
 use Rattle.llama_main.specs.Store.{AreBelow}
 use Rattle.llama_main.specs.ListRows.{left_of, rows_of}
-
-pub no_edge : Edge
-no_edge = record { source = 0; target = 0; weight = 0 }
-
-pub leaving-append : (v : ℕ) (xs ys : List Edge) → leaving v (xs ++ ys) ≡ leaving v xs ++ leaving v ys
-leaving-append v xs ys = ap (map (λ (e : Edge). (e.target, e.weight))) (filter-append (λ (e : Edge). eqb e.source v) xs ys) ∙ map-append _ (filter (λ (e : Edge). eqb e.source v) xs) (filter (λ (e : Edge). eqb e.source v) ys)
-
--- the newest edge of the source comes first
-pub left_of-push : (v : ℕ) (xs : List Edge) (e : Edge) → left_of v (xs ++ e ∷ []) ≡ cond (eqb e.source v) ((e.target, e.weight) ∷ left_of v xs) (left_of v xs)
-left_of-push v xs e = ap reverse (leaving-append v xs (e ∷ [])) ∙ (reverse-append (leaving v xs) (leaving v (e ∷ [])) ∙ last (eqb e.source v) refl)
-  where
-    last : (b : Bool) → b ≡ eqb e.source v → reverse (leaving v (e ∷ [])) ++ left_of v xs ≡ cond b ((e.target, e.weight) ∷ left_of v xs) (left_of v xs)
-    last true h = rw (← h) refl
-    last false h = rw (← h) refl
-
--- one edge more of a list that is read by index
-pub left_of-more : (v : ℕ) (xs : List Edge) (i : ℕ) (e : Edge) → i < length xs → e ≡ get_or xs i e → left_of v (take (i + 1) xs) ≡ cond (eqb e.source v) ((e.target, e.weight) ∷ left_of v (take i xs)) (left_of v (take i xs))
-left_of-more v xs i e lt is = ap (left_of v) (take_more xs i e lt ∙ ap (λ y. take i xs ++ y ∷ []) (sym is)) ∙ left_of-push v (take i xs) e
 
 pub length-rows_of : (count : ℕ) (edges : List Edge) → length (rows_of count edges) ≡ count
 unfolding rows_of

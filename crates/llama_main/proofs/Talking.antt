@@ -80,14 +80,6 @@ Wrote-line a b c s t u v front part first line last = record {
       ∙ (first.kept (part ++ 10 ∷ more) ∙ (ap (behind first.said) (line more ∙ last.kept more) ∙ behind-behind first.said last.said (foreseen v more)));
 }
 
--- the front of a line more
-pub Wrote-held : (a b : Option (List ℕ)) (s t u : Session) (front part : List ℕ) → Wrote a b s t front → ((more : List ℕ) → foreseen t (part ++ more) ≡ foreseen u more) → Wrote a b s u (front ++ part)
-Wrote-held a b s t u front part first held = record {
-  said = first.said;
-  appended = first.appended;
-  kept = λ more. ap (foreseen s) (append_assoc front part more) ∙ (first.kept (part ++ more) ∙ ap (behind first.said) (held more));
-}
-
 -- a stop after a front of the piece
 pub Stopped-after : (a b c : Option (List ℕ)) (s t : Session) (front rest out said : List ℕ) (stop : Stop) → Wrote a b s t front → Appends b c said → ((more : List ℕ) → StopsAt stop (said ++ out) (foreseen t (rest ++ more))) → Stopped a c s (front ++ rest) out stop
 Stopped-after a b c s t front rest out said stop first appended stops = record {

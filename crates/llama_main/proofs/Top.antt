@@ -1,6 +1,5 @@
 -- What a run says, whether its words were in the grammar or not.
-use Rattle.std.proofs.Common.{◌≡◌, ℕ, List, [], ◌∷◌, length, refl, sym, subst, Option, ◌⊎◌, inl, inr, eqb, true, false, arith}
-use Rattle.std.proofs.lemmas.Bool.Decides.{nat_tests}
+use Rattle.std.proofs.Common.{◌≡◌, ℕ, List, [], ◌∷◌, refl, sym, subst, Option, ◌⊎◌, inl, inr}
 use Rattle.std.specs.Prelude.{IfSome}
 use Rattle.lama_model.specs.Opening.{empty_opening}
 use Rattle.lama_model.specs.Script.{End}
@@ -18,14 +17,6 @@ use Rattle.llama_main.proofs.Bytes.{Gave-none}
 pub words_cases : {A : Type 0} (words : List A) → (words ≡ []) ⊎ (words ≡ [] → ⊥)
 words_cases [] = inl refl
 words_cases (word ∷ words) = inr (λ h. cc)
-
-pub no_words : {A : Type 0} (words : List A) → eqb (length words) 0 ≡ true → words ≡ []
-no_words [] h = refl
-no_words (word ∷ words) h = absurd (grind (arith, nat_tests))
-
-pub some_words : {A : Type 0} (words : List A) → eqb (length words) 0 ≡ false → words ≡ [] → ⊥
-some_words [] h = λ e. cc
-some_words (word ∷ words) h = λ e. cc
 
 pub outside_status : (w w' : Option (List ℕ)) (status : Status) → AreRefused w w' status → IsOutside status
 outside_status w w' status (inl h) = subst IsOutside (sym h.0) tt

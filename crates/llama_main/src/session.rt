@@ -151,6 +151,7 @@ impl Session {
     fn write_gathered<K: Sink>(&mut self, sink: &mut K) -> Result<(), Stop>
         requires { IsTalking self.old }
         ensures ok { OnOk result (Wrote (K.written sink.old) (K.written sink.new) self.old self.new []) }
+        ensures few { OnOk result (length self.new.interpreter.out.items < 65536) }
         ensures talking { IsTalking self.new }
         ensures room { room self.new ≡ room self.old }
         ensures err { IfErr result (Stopped (K.written sink.old) (K.written sink.new) self.old [] self.new.interpreter.out.items) }
