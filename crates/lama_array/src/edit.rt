@@ -94,7 +94,7 @@ impl<T: Copy> Edit<T> {
         self.len
     }
 
-    /// The record at `i`, by two dependent loads.
+    /// The record at `i`: the page is looked up by its number and read there, with no search.
     pub fn get(&self, i: u32) -> T
         requires { i < length self.now.items }
         ensures { result ≡ slice_index_or self.now.items i result }

@@ -72,7 +72,7 @@ impl<T: Copy> VArray<T> {
         self.len
     }
 
-    /// The record at `i`, by two dependent loads: of the indirection table and of the page.
+    /// The record at `i`: the page is looked up in the indirection table and read there, with no search.
     pub fn get(&self, i: u32) -> T
         requires { i < length self.now }
         ensures { result ≡ slice_index_or self.now i result }

@@ -59,7 +59,7 @@ impl EdgeTable {
         self.slots.len()
     }
 
-    /// The slot at place `i`, counted from 0, by two dependent loads. It takes no memory.
+    /// The slot at place `i`, counted from 0, with no search. It takes no memory.
     pub fn slot(&self, i: u32) -> Slot
         requires { i < length self.now }
         ensures { slice_get self.now i ≡ Some result }

@@ -43,7 +43,7 @@ impl Weights {
         })
     }
 
-    /// The weight at place `i`, counted from 0, by two dependent loads. It takes no memory.
+    /// The weight at place `i`, counted from 0, with no search. It takes no memory.
     pub fn weight(&self, i: u32) -> u64
         requires { i < length self.now }
         ensures { result ≡ slice_index self.now i }
