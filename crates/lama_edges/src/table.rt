@@ -52,6 +52,13 @@ impl EdgeTable {
         })
     }
 
+    /// The table with these slots, which were put in their order before. It makes no page.
+    pub fn from_slots(slots: VArray<Slot>) -> EdgeTable
+        ensures { result ≡ slots }
+    {
+        EdgeTable { slots }
+    }
+
     /// How many slots the table has, tails among them.
     pub fn len(&self) -> u32
         ensures { result ≡ length self.now }

@@ -43,6 +43,13 @@ impl Weights {
         })
     }
 
+    /// The column with these weights, which were put in their order before. It makes no page.
+    pub fn from_column(weights: VArray<u64>) -> Weights
+        ensures { result ≡ weights }
+    {
+        Weights { weights }
+    }
+
     /// The weight at place `i`, counted from 0, with no search. It takes no memory.
     pub fn weight(&self, i: u32) -> u64
         requires { i < length self.now }

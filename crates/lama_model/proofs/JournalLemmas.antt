@@ -5,7 +5,7 @@ use Rattle.std.proofs.lemmas.Bool.{false≢true, cases_Bool, lt-leb}
 use Rattle.std.proofs.lemmas.Bool.Decides.{leb_tells}
 use Rattle.std.proofs.lemmas.List.{get_or_append_left, get_or_push, length_push}
 use Rattle.lama_model.specs.Graph.{Graph, no_graph}
-use Rattle.lama_model.specs.Opening.{Opening, last_number}
+use Rattle.lama_model.specs.Opening.{Opening, last_number, opening_graph}
 use Rattle.lama_model.specs.Journal.{Standing, begun, newest, graph, standing, cut, reply_at, is_accepted, done, after, is_made, before_made}
 use Rattle.lama_model.specs.Laws.{count_made}
 use Rattle.lama_model.specs.declared.calls.Call.{Call}
@@ -130,5 +130,5 @@ pub graph_cut : (o : Opening) (journal : List Entry) (k : ℕ) → last_number o
 unfolding standing
 graph_cut o journal k above within =
     let high = lt-leb k (last_number o) above in
-    ap (λ b. cond b o.graph (get_or (run o (begun o) journal).made (k - last_number o - 1) no_graph)) high
+    ap (λ b. cond b (opening_graph o k) (get_or (run o (begun o) journal).made (k - last_number o - 1) no_graph)) high
     ∙ cut_all o journal (begun o) (k - last_number o) (k - last_number o - 1) (omega arith) (omega arith) (omega arith)

@@ -4,3 +4,8 @@ pub mod FillLemmas
 pub mod PlainLemmas
 pub mod ViewLemmas
 pub mod JournalLemmas
+pub mod Thinning
+pub mod ChangeLaw
+pub mod StandingLemmas
+pub mod JournalLaws
+pub mod Counting

@@ -31,3 +31,10 @@ effect (Vertices n) g = record { count = g.count + n; edges = g.edges }
 effect (Add u v w) g = record { count = g.count; edges = g.edges ++ record { source = u; target = v; weight = w } ∷ [] }
 effect (Remove u v) g = record { count = g.count; edges = filter (λ e. not (joins u v e)) g.edges }
 effect (Weigh u v w) g = record { count = g.count; edges = map (λ e. if joins u v e then with_weight w e else e) g.edges }
+
+-- each vertex that the write names is below the count
+abbrev pub IsNamedBelow : ℕ → Write → Type 0
+IsNamedBelow count (Vertices n) = Unit {0}
+IsNamedBelow count (Add u v w) = (u < count) × (v < count)
+IsNamedBelow count (Remove u v) = (u < count) × (v < count)
+IsNamedBelow count (Weigh u v w) = (u < count) × (v < count)

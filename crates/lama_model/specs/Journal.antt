@@ -1,7 +1,8 @@
 -- What the calls of a journal leave, and what they are answered.
 use Rattle.std.specs.Prelude.{ℕ, ◌+◌, ◌-◌, max, nat_le, nat_lt, Bool, true, false, not, ◌&&◌, ◌||◌, if◌then◌else◌, List, [], ◌∷◌, ◌++◌, length, fold, slice_index_or}
 use Rattle.lama_model.specs.Graph.{Graph, no_graph, effect}
-use Rattle.lama_model.specs.Opening.{Opening, first_number, oldest_number, last_number, opening_graph}
+use Rattle.lama_model.specs.Change.{Change, change_between}
+use Rattle.lama_model.specs.Opening.{Opening, first_number, oldest_number, last_number, opening_graph, opening_change}
 use Rattle.lama_model.specs.declared.calls.Write.{Write}
 use Rattle.lama_model.specs.declared.calls.Write.TheVariants.{Vertices, Add, Remove, Weigh}
 use Rattle.lama_model.specs.declared.calls.Call.{Call}
@@ -19,6 +20,10 @@ pub record Standing : Type 0 where
   pub added : ℕ
   -- the graphs of the accepted checkpoints, oldest first
   pub made : List Graph
+  -- for each of them the writes accepted since the one before, oldest first
+  pub written : List (List Write)
+  -- the writes accepted since the last of them, oldest first
+  pub pending : List Write
   -- the oldest number that is kept
   pub oldest : ℕ
   -- the numbers of the accepted installs, newest first
@@ -27,7 +32,7 @@ pub record Standing : Type 0 where
 -- before any call
 abbrev pub begun : Opening → Standing
 begun o = let newest = opening_graph o (last_number o) in
-    record { graph = newest; added = length newest.edges; made = []; oldest = oldest_number o; installed = [] }
+    record { graph = newest; added = length newest.edges; made = []; written = []; pending = []; oldest = oldest_number o; installed = [] }
 
 -- the newest number
 abbrev pub newest_of : Opening → Standing → ℕ
@@ -36,6 +41,16 @@ newest_of o s = last_number o + length s.made
 -- the graph of the number k
 abbrev pub graph_of : Opening → Standing → ℕ → Graph
 graph_of o s k = if nat_le k (last_number o) then opening_graph o k else slice_index_or s.made (k - last_number o - 1) no_graph
+
+-- what changed from the graph of the number before to that of k, for k above the opening's floor
+unfoldable pub change_of : Opening → Standing → ℕ → Change
+change_of o s k =
+    if nat_le k (last_number o) then opening_change o k
+    else change_between (graph_of o s (k - 1)) (slice_index_or s.written (k - last_number o - 1) []) k
+
+-- the floor of the number j where this stands: the greatest installed number up to j, or the opening's floor
+abbrev pub floor_of : Opening → Standing → ℕ → ℕ
+floor_of o s j = fold (λ f k. if nat_le k j then max f k else f) (first_number o) s.installed
 
 -- refused where a vertex isn't one of the standing graph, u first
 abbrev pub with_ends : Standing → ℕ → ℕ → Reply → Reply
@@ -82,8 +97,8 @@ edges_added (Weigh u v w) = 0
 
 -- what an accepted call leaves
 abbrev pub done : Call → Standing → Standing
-done (Writes w) s = record s { graph = effect w s.graph; added = s.added + edges_added w }
-done Checkpoint s = record s { made = s.made ++ s.graph ∷ [] }
+done (Writes w) s = record s { graph = effect w s.graph; added = s.added + edges_added w; pending = s.pending ++ w ∷ [] }
+done Checkpoint s = record s { made = s.made ++ s.graph ∷ []; written = s.written ++ s.pending ∷ []; pending = [] }
 done Look s = s
 done (LookAt k) s = s
 done (Install k) s = record s { installed = k ∷ s.installed }
@@ -111,7 +126,7 @@ oldest o journal = (standing o journal).oldest
 
 -- the floor of the number j: the greatest installed number up to j, or the opening's floor
 abbrev pub floor_at : Opening → List Entry → ℕ → ℕ
-floor_at o journal j = fold (λ f k. if nat_le k j then max f k else f) (first_number o) (standing o journal).installed
+floor_at o journal j = floor_of o (standing o journal) j
 
 -- the floor of the newest number
 abbrev pub floor : Opening → List Entry → ℕ
@@ -120,6 +135,10 @@ floor o journal = floor_at o journal (newest o journal)
 -- the graph of the number k, from the opening's floor to the newest
 abbrev pub graph : Opening → List Entry → ℕ → Graph
 graph o journal k = graph_of o (standing o journal) k
+
+-- what changed from the graph of the number k - 1 to that of k
+abbrev pub change : Opening → List Entry → ℕ → Change
+change o journal k = change_of o (standing o journal) k
 
 -- the call is a checkpoint that is accepted there
 abbrev pub is_made : Opening → Standing → Call → Bool

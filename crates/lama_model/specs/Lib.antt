@@ -1,5 +1,8 @@
 pub mod Graph
 pub mod Row
+pub mod Change
+pub mod Bounds
+pub mod Fits
 pub mod Opening
 pub mod Journal
 pub mod Weave

@@ -1,5 +1,6 @@
 -- The rows of a graph: compressed sparse rows hold these lists one after another.
-use Rattle.std.specs.Prelude.{◌≡◌, ℕ, ◌==◌, suc, List, [], ◌∷◌, ◌++◌, map, filter, reverse, length, ◌<◌, All, slice_index_or}
+use Rattle.std.specs.Prelude.{◌≡◌, ℕ, ◌==◌, suc, List, [], ◌∷◌, ◌++◌, map, filter, reverse, length, ◌<◌, All, sum_by, slice_index_or}
+use Rattle.std.specs.List.{range_with_len}
 use Rattle.lama_base.specs.declared.Edge.{Edge}
 use Rattle.lama_model.specs.Graph.{Graph}
 
@@ -15,6 +16,10 @@ row g v = reverse (leaving v g.edges)
 pub record AreSame (g h : Graph) : Type 0 where
   pub count : g.count ≡ h.count
   pub rows : (v : ℕ) → row g v ≡ row h v
+
+-- the rows of the graph, one for each vertex
+unfoldable pub rows_of : Graph → List (List (ℕ × ℕ))
+rows_of g = map (row g) (range_with_len 0 g.count)
 
 -- the edges of the rows from vertex v on, each row from its last pair to its first
 abbrev pub edges_of_rows : ℕ → List (List (ℕ × ℕ)) → List Edge
@@ -37,3 +42,7 @@ AreTargetsBelow count rows = All (λ r. All (λ p. p.0 < count) r) rows
 pub record AreRowsOf (rows : List (List (ℕ × ℕ))) (g : Graph) : Type 0 where
   pub count : length rows ≡ g.count
   pub each : (v : ℕ) → v < g.count → row_at rows v ≡ row g v
+
+-- how many edges the rows have
+abbrev pub edges_in : List (List (ℕ × ℕ)) → ℕ
+edges_in rows = sum_by (λ (r : List (ℕ × ℕ)). length r) rows

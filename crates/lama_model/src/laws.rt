@@ -1,10 +1,15 @@
 //! Laws of the definitions alone, for every opening and every journal.
 
-ghost use Rattle.std.specs.Prelude.{◌≡◌, ◌+◌, ◌<◌, ◌≤◌, ℕ, List};
+ghost use Rattle.std.specs.Prelude.{◌≡◌, ◌+◌, ◌<◌, ◌≤◌, ◌++◌, [], ◌∷◌, ℕ, List};
+ghost use Rattle.lama_model.specs.Graph.{Graph};
+ghost use Rattle.lama_model.specs.Row.{row};
+ghost use Rattle.lama_model.specs.Change.{change_between, graph_after, row_after};
 ghost use Rattle.lama_model.specs.Opening.{Opening, last_number};
-ghost use Rattle.lama_model.specs.Journal.{begun, standing, newest, graph, cut};
+ghost use Rattle.lama_model.specs.Journal.{begun, standing, newest, oldest, floor_at, graph, change, cut};
 ghost use Rattle.lama_model.specs.Laws.{count_made};
+ghost use Rattle.lama_model.specs.declared.calls.Call.TheVariants.{Install};
 ghost use Rattle.lama_model.specs.declared.calls.Entry.{Entry};
+ghost use Rattle.lama_model.specs.declared.calls.Write.{Write};
 
 /// A snapshot above the opening's newest is what stood after the entries before its own checkpoint,
 /// whatever came later, and the accepted checkpoints number the snapshots.
@@ -12,4 +17,27 @@ pub fn snapshots_are_prefixes()
     ensures prefix { (o : Opening) (journal : List Entry) (k : ℕ) → last_number o < k → k ≤ newest o journal →
         graph o journal k ≡ (standing o (cut o journal k)).graph }
     ensures numbers { (o : Opening) (journal : List Entry) → newest o journal ≡ last_number o + count_made o (begun o) journal }
+{}
+
+/// The change that writes make of a graph, done on its rows, gives the rows of the graph after the writes.
+pub fn changes_make_rows()
+    ensures { (g : Graph) (writes : List Write) (number v : ℕ) → v < (graph_after writes g).count →
+        row_after (change_between g writes number).rows v (row g v) ≡ row (graph_after writes g) v }
+{}
+
+/// What stands under a number stays, however the journal goes on.
+pub fn numbers_keep_their_graphs()
+    ensures graphs { (o : Opening) (journal more : List Entry) (k : ℕ) → k ≤ newest o journal →
+        graph o (journal ++ more) k ≡ graph o journal k }
+    ensures changes { (o : Opening) (journal more : List Entry) (k : ℕ) → k ≤ newest o journal →
+        change o (journal ++ more) k ≡ change o journal k }
+{}
+
+/// The newest number, the oldest one and every floor never fall, and an install changes no graph.
+pub fn numbers_never_fall()
+    ensures newest { (o : Opening) (journal more : List Entry) → newest o journal ≤ newest o (journal ++ more) }
+    ensures oldest { (o : Opening) (journal more : List Entry) → oldest o journal ≤ oldest o (journal ++ more) }
+    ensures floors { (o : Opening) (journal more : List Entry) (j : ℕ) → floor_at o journal j ≤ floor_at o (journal ++ more) j }
+    ensures installs { (o : Opening) (journal : List Entry) (caller i k : ℕ) →
+        graph o (journal ++ record { caller = caller; call = Install i } ∷ []) k ≡ graph o journal k }
 {}

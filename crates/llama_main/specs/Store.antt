@@ -23,6 +23,8 @@ held count edges marks calls = record {
     graph = record { count = count; edges = edges };
     added = length edges;
     made = map (graph_at edges) marks;
+    written = [];
+    pending = [];
     oldest = 0;
     installed = [];
   };
@@ -46,6 +48,10 @@ pub record IsHeld (count : ℕ) (edges : List Edge) (marks : List Mark) : Type 0
   pub below : AreBelow count edges
   pub each : All (IsMark edges) marks
 
+-- a plain list keeps no writes apart: it knows what they left
+abbrev pub without_writes : Standing → Standing
+without_writes s = record s { written = []; pending = [] }
+
 -- one call more
 abbrev pub called : Held → Call → Held
-called h call = record { standing = after empty_opening h.standing call; calls = h.calls + 1 }
+called h call = record { standing = without_writes (after empty_opening h.standing call); calls = h.calls + 1 }

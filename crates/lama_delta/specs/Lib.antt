@@ -1,0 +1,3 @@
+pub mod Seen
+pub mod Pending
+pub mod Grouping

@@ -1,0 +1,15 @@
+//! Pending writes, and the changes that they make of a graph.
+//!
+//! Writes wait in a [`Delta`], in the order in which they came. A checkpoint turns them into a [`Change`]: for each
+//! source that they touch, what is new in its row and what has gone from it.
+#![tactic(auto)]
+
+mod change;
+mod delta;
+mod grouping;
+
+pub use change::{Change, RowChange};
+pub use delta::Delta;
+
+#[cfg(test)]
+mod tests;

@@ -1,0 +1,9 @@
+pub mod Fragments
+pub mod BaseRows
+pub mod Chains
+pub mod Snap
+pub mod Written
+pub mod Levels
+pub mod Shown
+pub mod NewLevel
+pub mod Loops

@@ -1,0 +1,25 @@
+-- What a contract sees of the fields of a snapshot.
+use Rattle.std.specs.Prelude.{map}
+use Rattle.std.specs.Arc.{arc_value}
+use Rattle.lama_snapshot.specs.Chains.{rows_from}
+use Rattle.lama_snapshot.specs.Snap.{Snap, layout_of, IsSnap}
+use Rattle.lama_snapshot.specs.Levels.{table_of, change_of}
+use Rattle.lama_snapshot.specs.declared.snapshot.Snapshot.TheInside.{Inside}
+
+-- the snapshot that the fields stand for
+abbrev pub shown : Inside → Snap
+shown s =
+    let base = arc_value s.base in
+    let levels = map arc_value s.levels.items in
+    let layout = layout_of base (map table_of levels) in
+    record {
+      number = s.number;
+      base = base;
+      rows = rows_from layout s.vertices;
+      changes = map change_of levels;
+      edge_count = s.edge_count;
+      layout = layout;
+    }
+
+abbrev pub IsShown : Inside → Type 0
+IsShown s = IsSnap s.number s.edge_count s.vertices (arc_value s.base) (map table_of (map arc_value s.levels.items))
