@@ -1,0 +1,5 @@
+pub mod OpeningLemmas
+pub mod Answering
+pub mod Keeping
+pub mod Checkpointing
+pub mod Calls

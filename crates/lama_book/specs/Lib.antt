@@ -1,0 +1,3 @@
+pub mod Book
+pub mod Relation
+pub mod Shown
