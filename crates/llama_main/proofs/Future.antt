@@ -1,73 +1,26 @@
 -- What is foreseen at the start is the outcome, and how it goes on line by line.
-use Rattle.std.proofs.Common.{◌≡◌, ℕ, ◌+◌, ◌<◌, ◌≤◌, Bool, true, false, cond, List, [], ◌∷◌, ◌++◌, length, refl, sym, ap, ◌∙◌, arith}
+use Rattle.std.proofs.Common.{◌≡◌, ℕ, ◌+◌, ◌<◌, ◌≤◌, Bool, true, false, cond, List, [], ◌∷◌, ◌++◌, length, refl, ap, ◌∙◌, arith}
 use Rattle.std.specs.Prelude.{nat_lt}
 use Rattle.std.proofs.lemmas.List.{append_assoc, length-append}
 use Rattle.std.proofs.lemmas.List.Sums.{fold-append}
 use Rattle.std.proofs.lemmas.Bool.Decides.{nat_tests}
 use Rattle.lama_model.specs.Opening.{empty_opening}
-use Rattle.lama_model.specs.Journal.{Standing, standing, after, begun, done, is_accepted, reply_at, reply_to_write}
+use Rattle.lama_model.specs.Journal.{Standing, standing, after, begun, reply}
 use Rattle.lama_model.specs.Script.{Meaning, Script, meaning, meaning_of_words, words, without_return, script_from, lines, with_line}
 use Rattle.lama_model.specs.Script.Meaning.{Skipped, Says, Bad}
 use Rattle.lama_model.specs.Script.End.{Whole, TooMany}
-use Rattle.lama_model.specs.Lines.{last_line, reply_line}
+use Rattle.lama_model.specs.Lines.{last_line}
 use Rattle.lama_model.specs.Text.{tell, text, text_of, entry, journal_after, lines_of, reading_lines, look_of}
 use Rattle.lama_model.specs.declared.calls.Call.{Call}
-use Rattle.lama_model.specs.declared.calls.Call.TheVariants.{Write as WriteCall, Checkpoint, Look, LookAt, Install, Retire}
-use Rattle.lama_model.specs.declared.calls.Write.TheVariants.{Vertices, Add, Remove, Weigh}
 use Rattle.lama_model.specs.declared.calls.Entry.{Entry}
 use Rattle.lama_model.specs.declared.commands.Command.{Command}
 use Rattle.lama_model.specs.declared.commands.Command.TheVariants.{Write as Writes, Checkpoint as Checkpoints, Read as Reads}
 use Rattle.lama_model.specs.declared.commands.Read.{Read}
 use Rattle.lama_model.specs.declared.answers.Reply.{Reply}
 use Rattle.lama_model.specs.declared.answers.Reply.TheVariants.{Accepted, Count, Snapshot, Kept, Refused}
-use Rattle.llama_main.specs.Store.{Held, held, called, without_writes}
+use Rattle.llama_main.specs.Store.{Held, held_by, called}
+use Rattle.llama_main.proofs.Holding.{held_by-push}
 use Rattle.llama_main.specs.Outlook.{Outcome, outcome, behind, ended, held_after, printed, printed_reading, following, outlook_at}
-
--- what is held after this journal
-abbrev held_by : List Entry → Held
-held_by journal = record { standing = without_writes (standing empty_opening journal); calls = length journal }
-
--- no answer asks which writes there were
-reply-without : (s : Standing) (call : Call) → reply_at empty_opening (without_writes s) call ≡ reply_at empty_opening s call
-unfolding reply_at reply_to_write
-reply-without s (WriteCall (Vertices n)) = refl
-reply-without s (WriteCall (Add u v w)) = refl
-reply-without s (WriteCall (Remove u v)) = refl
-reply-without s (WriteCall (Weigh u v w)) = refl
-reply-without s Checkpoint = refl
-reply-without s Look = refl
-reply-without s (LookAt k) = refl
-reply-without s (Install k) = refl
-reply-without s (Retire k) = refl
-
-done-without : (s : Standing) (call : Call) → without_writes (done call (without_writes s)) ≡ without_writes (done call s)
-done-without s (WriteCall w) = refl
-done-without s Checkpoint = refl
-done-without s Look = refl
-done-without s (LookAt k) = refl
-done-without s (Install k) = refl
-done-without s (Retire k) = refl
-
--- nor does what a call leaves, but for the writes
-after-without : (s : Standing) (call : Call) → without_writes (after empty_opening s call) ≡ without_writes (after empty_opening (without_writes s) call)
-unfolding after
-after-without s call =
-    by (is_accepted (reply_at empty_opening s call))
-    ∙ ap (λ r. without_writes (cond (is_accepted r) (done call (without_writes s)) (without_writes s))) (sym (reply-without s call))
-  where
-    by : (b : Bool) → without_writes (cond b (done call s) s) ≡ without_writes (cond b (done call (without_writes s)) (without_writes s))
-    by true = sym (done-without s call)
-    by false = refl
-
--- one entry more
-held_by-push : (journal : List Entry) (call : Call) → held_by (journal ++ entry 0 call ∷ []) ≡ called (held_by journal) call
-unfolding standing
-held_by-push journal call =
-    let left : standing empty_opening (journal ++ entry 0 call ∷ []) ≡ after empty_opening (standing empty_opening journal) call = fold-append (λ (s : Standing) (e : Entry). after empty_opening s e.call) (begun empty_opening) journal (entry 0 call ∷ []) in
-    let more : length (journal ++ entry 0 call ∷ []) ≡ length journal + 1 = length-append journal (entry 0 call ∷ []) in
-    ap (λ t. let h : Held = record { standing = without_writes t; calls = length (journal ++ entry 0 call ∷ []) } in h) left
-    ∙ (ap (λ n. let h : Held = record { standing = without_writes (after empty_opening (standing empty_opening journal) call); calls = n } in h) more
-    ∙ ap (λ t. let h : Held = record { standing = t; calls = length journal + 1 } in h) (after-without (standing empty_opening journal) call))
 
 -- a command's entry
 journal_after-held : (journal : List Entry) (c : Command) → held_by (journal_after empty_opening journal 0 c) ≡ held_after (held_by journal) c
@@ -84,11 +37,10 @@ reading-printed journal h c what (Refused r) is = refl
 
 -- a command's lines
 lines_of-printed : (journal : List Entry) (c : Command) → lines_of empty_opening journal 0 c ≡ printed (held_by journal) c
-lines_of-printed journal (Writes w) = ap (reply_line (Writes w)) (sym (reply-without (standing empty_opening journal) (WriteCall w)))
-lines_of-printed journal Checkpoints = ap (reply_line Checkpoints) (sym (reply-without (standing empty_opening journal) Checkpoint))
+lines_of-printed journal (Writes w) = refl
+lines_of-printed journal Checkpoints = refl
 lines_of-printed journal (Reads at what) =
-    ap (reading_lines empty_opening (journal_after empty_opening journal 0 (Reads at what)) (Reads at what) what) (sym (reply-without (standing empty_opening journal) (look_of at)))
-    ∙ reading-printed (journal_after empty_opening journal 0 (Reads at what)) (held_after (held_by journal) (Reads at what)) (Reads at what) what (reply_at empty_opening (without_writes (standing empty_opening journal)) (look_of at)) (journal_after-held journal (Reads at what))
+    reading-printed (journal_after empty_opening journal 0 (Reads at what)) (held_after (held_by journal) (Reads at what)) (Reads at what) what (reply empty_opening journal (look_of at)) (journal_after-held journal (Reads at what))
 
 -- the outcome of a script that was read so, after a journal
 abbrev outcome_of : List Entry → Script → Outcome
@@ -119,7 +71,7 @@ outlook-script journal n (line ∷ rest) =
     choice journal (nat_lt 2097152 n) (with_line n (meaning line) (script_from (n + 1) rest)) (following (held_by journal) n (meaning line) (λ g. outlook_at g (n + 1) rest)) (line-following journal n rest (meaning line) (λ j. outlook-script j (n + 1) rest))
 
 -- what is foreseen before anything came is the outcome
-pub outcome-outlook : (bytes : List ℕ) → outcome empty_opening bytes ≡ outlook_at (held 0 [] [] 0) 1 (lines bytes)
+pub outcome-outlook : (bytes : List ℕ) → outcome empty_opening bytes ≡ outlook_at (held_by []) 1 (lines bytes)
 unfolding text standing
 outcome-outlook bytes = outlook-script [] 1 (lines bytes)
 

@@ -1,5 +1,3 @@
-pub mod RowLemmas
-pub mod StoreLemmas
 pub mod Bytes
 pub mod LineLemmas
 pub mod Future
@@ -10,3 +8,4 @@ pub mod Talking
 pub mod Conversation
 pub mod Causes
 pub mod Top
+pub mod Holding

@@ -2,9 +2,8 @@
 use Rattle.std.proofs.Common.{◌≡◌, ℕ, ◌<◌, ◌≤◌, Bool, true, false, cond, List, refl, sym, ap, ◌∙◌, arith, Option}
 use Rattle.std.specs.Prelude.{nat_lt}
 use Rattle.std.proofs.lemmas.Bool.Decides.{nat_tests}
-use Rattle.lama_base.specs.declared.Edge.{Edge}
 use Rattle.lama_model.specs.Graph.{Graph}
-use Rattle.lama_model.specs.Row.{row, row_at}
+use Rattle.lama_model.specs.Row.{row, row_at, AreRowsOf}
 use Rattle.lama_model.specs.Opening.{empty_opening}
 use Rattle.lama_model.specs.Journal.{reply_at}
 use Rattle.lama_model.specs.Lines.{reply_line, refusal_line, row_line}
@@ -19,9 +18,7 @@ use Rattle.lama_model.specs.declared.answers.Reply.TheVariants.{Accepted, Count,
 use Rattle.lama_model.specs.declared.answers.Refusal.{Refusal}
 use Rattle.lama_model.specs.declared.answers.Refusal.TheVariants.{UnknownVertex}
 use Rattle.llama_main.specs.Store.{Held}
-use Rattle.llama_main.specs.ListRows.{rows_of}
 use Rattle.llama_main.specs.Outlook.{printed, printed_reading, held_after}
-use Rattle.llama_main.proofs.RowLemmas.{row_at-rows_of}
 
 -- a refusal's line is the same for any command
 pub reply_line-refused : (c : Command) (r : Refusal) → reply_line c (Refused r) ≡ refusal_line r
@@ -47,11 +44,11 @@ printed-default h c at what r is reply none =
     ap (λ (x : Command). reply_line x r) is ∙ (default_line (held_after h (Reads at what)) at what r none ∙ (ap (printed_reading (held_after h (Reads at what)) (Reads at what) what) reply ∙ sym (ap (printed h) is)))
 
 -- a row that is there
-pub row-read : (g : Graph) (count : ℕ) (edges : List Edge) (k v : ℕ) → count ≡ g.count → edges ≡ g.edges → v < count → row_line k v (row_at (rows_of count edges) v) ≡ read_lines g k (Row v)
+pub row-read : (g : Graph) (rows : List (List (ℕ × ℕ))) (k v : ℕ) → AreRowsOf rows g → v < g.count → row_line k v (row_at rows v) ≡ read_lines g k (Row v)
 unfolding read_lines
-row-read g count edges k v same_count same_edges below =
+row-read g rows k v of below =
     let test : nat_lt v g.count ≡ true = grind (arith, nat_tests) in
-    ap (row_line k v) (row_at-rows_of count v edges below ∙ ap (λ (es : List Edge). row (record { count = g.count; edges = es }) v) same_edges) ∙ sym (ap (λ (b : Bool). cond b (row_line k v (row g v)) (refusal_line (UnknownVertex v g.count))) test)
+    ap (row_line k v) (of.each v below) ∙ sym (ap (λ (b : Bool). cond b (row_line k v (row g v)) (refusal_line (UnknownVertex v g.count))) test)
 
 -- a vertex that isn't there
 pub row-refused : (g : Graph) (c : Command) (count k v : ℕ) → count ≡ g.count → count ≤ v → reply_line c (Refused (UnknownVertex v count)) ≡ read_lines g k (Row v)

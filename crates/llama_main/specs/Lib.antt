@@ -1,5 +1,4 @@
 pub mod Store
-pub mod ListRows
 pub mod Outlook
 pub mod Stops
 pub mod Going

@@ -1,57 +1,28 @@
--- What the plain store holds: a list of edges, and for each checkpoint how much of it there was.
-use Rattle.std.specs.Prelude.{ℕ, ◌+◌, ◌<◌, ◌≤◌, List, [], length, map, take, All}
-use Rattle.lama_base.specs.declared.Edge.{Edge}
-use Rattle.lama_model.specs.Graph.{Graph}
+-- What the store of a script holds.
+use Rattle.std.specs.Prelude.{◌≡◌, ℕ, ◌+◌, List, length}
+use Rattle.lama_model.specs.Row.{AreRowsOf}
 use Rattle.lama_model.specs.Opening.{empty_opening}
-use Rattle.lama_model.specs.Journal.{Standing, after}
+use Rattle.lama_model.specs.Journal.{Standing, standing, after, graph_of}
 use Rattle.lama_model.specs.declared.calls.Call.{Call}
-use Rattle.llama_main.specs.declared.store.Mark.{Mark}
+use Rattle.lama_model.specs.declared.calls.Entry.{Entry}
+use Rattle.lama_model.specs.declared.answers.Reply.{Reply}
+use Rattle.lama_model.specs.declared.answers.Reply.TheVariants.{Snapshot}
+use Rattle.lama_snapshot.specs.Snap.{Snap}
 
 -- what the calls so far leave, and how many there were
 pub record Held : Type 0 where
   pub standing : Standing
   pub calls : ℕ
 
--- the vertices and edges at a checkpoint
-abbrev pub graph_at : List Edge → Mark → Graph
-graph_at edges mark = record { count = mark.count; edges = take mark.edges edges }
-
--- the meaning of the fields
-abbrev pub held : ℕ → List Edge → List Mark → ℕ → Held
-held count edges marks calls = record {
-  standing = record {
-    graph = record { count = count; edges = edges };
-    added = length edges;
-    made = map (graph_at edges) marks;
-    written = [];
-    pending = [];
-    oldest = 0;
-    installed = [];
-  };
-  calls = calls;
-}
-
--- each edge joins vertices below the count
-abbrev pub AreBelow : ℕ → List Edge → Type 0
-AreBelow count edges = All (λ e. (e.source < count) × (e.target < count)) edges
-
--- the checkpoint kept a front of the edges
-pub record IsMark (edges : List Edge) (mark : Mark) : Type 0 where
-  pub front : mark.edges ≤ length edges
-  pub below : AreBelow mark.count (take mark.edges edges)
-
--- what holds of every store
-pub record IsHeld (count : ℕ) (edges : List Edge) (marks : List Mark) : Type 0 where
-  pub few_vertices : count ≤ 4194304
-  pub few_edges : length edges ≤ 33554432
-  pub few_marks : length marks ≤ 4095
-  pub below : AreBelow count edges
-  pub each : All (IsMark edges) marks
-
--- a plain list keeps no writes apart: it knows what they left
-abbrev pub without_writes : Standing → Standing
-without_writes s = record s { written = []; pending = [] }
+-- what the calls of this journal leave
+abbrev pub held_by : List Entry → Held
+held_by journal = record { standing = standing empty_opening journal; calls = length journal }
 
 -- one call more
 abbrev pub called : Held → Call → Held
-called h call = record { standing = without_writes (after empty_opening h.standing call); calls = h.calls + 1 }
+called h call = record { standing = after empty_opening h.standing call; calls = h.calls + 1 }
+
+-- the reply hands out the snapshot, which is that of its number
+pub record IsFound (s : Standing) (r : Reply) (x : Snap) : Type 0 where
+  pub reply : r ≡ Snapshot x.number
+  pub rows : AreRowsOf x.rows (graph_of empty_opening s x.number)

@@ -2,26 +2,27 @@
 
 ghost use Rattle.std.specs.Prelude.{◌≡◌, ◌+◌, ◌<◌, ◌≤◌, [], ◌∷◌, ◌++◌, ℕ, List, IfOk, IfErr, OnOk, OnErr, length};
 ghost use Rattle.lama_model.specs.Opening.{empty_opening};
-ghost use Rattle.lama_model.specs.Journal.{newest_of, graph_of, reply_at};
+ghost use Rattle.lama_model.specs.Row.{AreRowsOf};
+ghost use Rattle.lama_model.specs.Journal.{graph_of};
 ghost use Rattle.lama_model.specs.Text.{read_lines};
-ghost use Rattle.lama_model.specs.declared.calls.Call.TheVariants.{Write as WriteCall};
-ghost use Rattle.lama_model.specs.declared.commands.Command.TheVariants.{Write as Writes};
 ghost use Rattle.lama_model.specs.declared.commands.Read.TheVariants.{Row};
-ghost use Rattle.llama_main.specs.Store.{called, held};
+ghost use Rattle.llama_main.specs.Store.{held_by};
 ghost use Rattle.llama_main.specs.Outlook.{IsPlain, held_after, printed, outlook_at};
 ghost use Rattle.llama_main.specs.Stops.{StopsAt, IsOfScript};
 ghost use Rattle.llama_main.specs.Going.{outlook, IsGoing, command_in};
 
 use crate::stop::Stop;
-use crate::store::PlainStore;
-use lama_model::{Refusal, Reply, Rows, Write};
+use crate::store::Store;
+use lama_book::Looked;
+use lama_model::{Refusal, Reply, Rows};
 use lama_script::{Command, Item, Parser, Read, ScriptFault, print_reply, print_row};
+use lama_snapshot::Snapshot;
 use std::alloc::{AllocError, Global};
 
 /// Takes the lines of one script, one after another.
 #[derive(Drop)]
 pub struct Interpreter {
-    pub store: PlainStore,
+    pub store: Store,
     pub parser: Parser,
     // The answers that are to be written.
     pub out: Vec<u8>,
@@ -29,16 +30,16 @@ pub struct Interpreter {
 
 impl Interpreter {
     /// Before the first line.
-    pub fn new(alloc: Global) -> Self
-        ensures start { (rest : List (List ℕ)) → outlook result rest ≡ outlook_at (held 0 [] [] 0) 1 rest }
-        ensures going { IsGoing result }
-        ensures none { result.out.items ≡ [] }
+    pub fn new(alloc: Global) -> Result<Interpreter, AllocError>
+        ensures start { IfOk result (λ i. (rest : List (List ℕ)) → outlook i rest ≡ outlook_at (held_by []) 1 rest) }
+        ensures going { IfOk result (λ i. IsGoing i) }
+        ensures none { IfOk result (λ i. i.out.items ≡ []) }
     {
-        Interpreter {
-            store: PlainStore::new(alloc),
+        Ok(Interpreter {
+            store: Store::new(alloc)?,
             parser: Parser::plain(),
             out: Vec::new(alloc),
-        }
+        })
     }
 
     /// How many lines were taken.
@@ -110,62 +111,50 @@ impl Interpreter {
     {
         match *command {
             Command::Write(write) => {
-                let reply = make_write(&mut self.store, write)?;
+                let reply = self.store.write(write)?;
                 print_reply(&mut self.out, command, &reply)
             }
             Command::Checkpoint => {
                 let reply = self.store.checkpoint()?;
                 print_reply(&mut self.out, command, &reply)
             }
-            Command::Read { at, what } => match self.store.look(at) {
-                Reply::Snapshot { number } => self.read(command, number, what),
-                reply => print_reply(&mut self.out, command, &reply),
-            },
+            Command::Read { at, what } => {
+                let Looked { reply, snapshot } = self.store.look(at)?;
+                match snapshot {
+                    Some(snapshot) => self.read(command, &snapshot, what),
+                    None => print_reply(&mut self.out, command, &reply),
+                }
+            }
         }
     }
 
-    /// Reads the graph of the number.
-    fn read(&mut self, command: &Command, number: u32, what: Read) -> Result<(), AllocError>
-        requires { number ≤ newest_of empty_opening self.old.store.standing }
+    /// Reads the snapshot.
+    fn read(&mut self, command: &Command, snapshot: &Snapshot, what: Read) -> Result<(), AllocError>
+        requires { AreRowsOf snapshot.now.rows (graph_of empty_opening self.old.store.standing snapshot.now.number) }
         ensures parser { self.new.parser ≡ self.old.parser }
         ensures store { self.new.store ≡ self.old.store }
-        ensures printed { OnOk result (self.new.out.items ≡ self.old.out.items ++ read_lines (graph_of empty_opening self.old.store.standing number) number what) }
+        ensures printed { OnOk result (self.new.out.items ≡ self.old.out.items ++ read_lines (graph_of empty_opening self.old.store.standing snapshot.now.number) snapshot.now.number what) }
         ensures err { OnErr result (self.new.out.items ≡ self.old.out.items) }
     {
         match what {
-            Read::Row { v } => self.read_row(command, number, v),
+            Read::Row { v } => self.read_row(command, snapshot, v),
         }
     }
 
     /// Reads the row of a vertex.
-    fn read_row(&mut self, command: &Command, number: u32, v: u32) -> Result<(), AllocError>
-        requires { number ≤ newest_of empty_opening self.old.store.standing }
+    fn read_row(&mut self, command: &Command, snapshot: &Snapshot, v: u32) -> Result<(), AllocError>
+        requires { AreRowsOf snapshot.now.rows (graph_of empty_opening self.old.store.standing snapshot.now.number) }
         ensures parser { self.new.parser ≡ self.old.parser }
         ensures store { self.new.store ≡ self.old.store }
-        ensures printed { OnOk result (self.new.out.items ≡ self.old.out.items ++ read_lines (graph_of empty_opening self.old.store.standing number) number (Row v)) }
+        ensures printed { OnOk result (self.new.out.items ≡ self.old.out.items ++ read_lines (graph_of empty_opening self.old.store.standing snapshot.now.number) snapshot.now.number (Row v)) }
         ensures err { OnErr result (self.new.out.items ≡ self.old.out.items) }
     {
-        let graph = self.store.graph(number);
-        let count = graph.count();
+        let count = snapshot.count();
         if v < count {
-            print_row(&mut self.out, number, &graph, v)
+            print_row(&mut self.out, snapshot.number(), snapshot, v)
         } else {
             let refusal = Refusal::UnknownVertex { vertex: v, count };
             print_reply(&mut self.out, command, &Reply::Refused(refusal))
         }
-    }
-}
-
-/// Makes a write that the plain store answers.
-fn make_write(store: &mut PlainStore, write: Write) -> Result<Reply, AllocError>
-    requires room { store.old.calls < 4194304 }
-    requires plain { IsPlain (Writes write) }
-    ensures reply { IfOk result (λ r. r ≡ reply_at empty_opening store.old.standing (WriteCall write)) }
-    ensures after { OnOk result (store.new ≡ called store.old (WriteCall write)) }
-{
-    match write {
-        Write::Vertices(n) => Ok(store.add_vertices(n)),
-        Write::Add(u, v, w) => store.add_edge(u, v, w),
-        Write::Remove(_, _) | Write::Weigh(_, _, _) => unreachable!(),
     }
 }

@@ -4,7 +4,6 @@
 ghost use Rattle.std.specs.Prelude.{◌≡◌};
 
 mod interpreter;
-mod list_rows;
 mod run;
 pub mod run_llama;
 mod session;

@@ -151,7 +151,9 @@ pub fn run_script<S: Source, K: Sink>(alloc: Global, source: &mut S, sink: &mut 
     ensures read_cause { result ≡ Status.ReadFault → Rose (S.faults source.old) (S.faults source.new) }
     ensures write_cause { result ≡ Status.WriteFault → Rose (K.faults sink.old) (K.faults sink.new) }
 {
-    let mut session = Session::new(alloc);
+    let Ok(mut session) = Session::new(alloc) else {
+        return Status::NoMemory;
+    };
     let answer = hear(alloc, source, sink, &mut session);
     let calls = session.interpreter.calls();
     let status = status_after(answer);

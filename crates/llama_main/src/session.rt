@@ -1,6 +1,6 @@
 //! One script's run over its bytes, in whatever pieces they come.
 
-ghost use Rattle.std.specs.Prelude.{◌≡◌, ◌<◌, ◌≤◌, ◌^◌, [], ◌∷◌, ◌++◌, ℕ, List, IfErr, OnOk, OnErr, Err, MatchOption, length, take, slice_index};
+ghost use Rattle.std.specs.Prelude.{◌≡◌, ◌<◌, ◌≤◌, ◌^◌, [], ◌∷◌, ◌++◌, ℕ, List, IfOk, IfErr, OnOk, OnErr, Err, MatchOption, length, take, slice_index};
 ghost use Rattle.lama_base.specs.Faults.{Rose};
 ghost use Rattle.lama_model.specs.Opening.{empty_opening};
 ghost use Rattle.llama_main.specs.Outlook.{outcome};
@@ -12,7 +12,7 @@ use crate::stop::Stop;
 use crate::writing::flush;
 use lama_base::Sink;
 use lama_base::limits::{MAX_LINE_BYTES, MAX_LINES};
-use std::alloc::Global;
+use std::alloc::{AllocError, Global};
 
 /// So many bytes are gathered before they are written while lines are still at hand.
 const GATHERED: usize = 65_536;
@@ -44,15 +44,15 @@ fn line_end(bytes: &[u8]) -> Option<usize>
 
 impl Session {
     /// Before any byte came.
-    pub fn new(alloc: Global) -> Self
-        ensures start { (bytes : List ℕ) → outcome empty_opening bytes ≡ foreseen result bytes }
-        ensures talking { IsTalking result }
-        ensures none { result.interpreter.out.items ≡ [] }
+    pub fn new(alloc: Global) -> Result<Session, AllocError>
+        ensures start { IfOk result (λ s. (bytes : List ℕ) → outcome empty_opening bytes ≡ foreseen s bytes) }
+        ensures talking { IfOk result (λ s. IsTalking s) }
+        ensures none { IfOk result (λ s. s.interpreter.out.items ≡ []) }
     {
-        Session {
-            interpreter: Interpreter::new(alloc),
+        Ok(Session {
+            interpreter: Interpreter::new(alloc)?,
             carry: Vec::new(alloc),
-        }
+        })
     }
 
     /// Takes the line that ends with this part, given without its line feed.

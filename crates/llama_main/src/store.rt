@@ -1,163 +1,148 @@
-//! The plain store: a list of edges, and for each checkpoint how much of it there was.
+//! The store of a script: a book that begins with no vertices.
 
-ghost use Rattle.std.specs.Prelude.{◌≡◌, ◌<◌, ◌≤◌, ℕ, [], IfOk, OnOk, OnErr, Some};
+ghost use Rattle.std.specs.Prelude.{◌≡◌, ◌≢◌, ◌<◌, ℕ, [], IfOk, OnOk, OnErr, MatchOption};
+ghost use Rattle.std.specs.Arc.{arc_value};
 ghost use Rattle.lama_model.specs.Opening.{empty_opening};
-ghost use Rattle.lama_model.specs.Journal.{reply_at, newest_of, graph_of};
+ghost use Rattle.lama_model.specs.Journal.{reply_at};
 ghost use Rattle.lama_model.specs.Text.{look_of};
-ghost use Rattle.lama_model.specs.declared.answers.Reply.TheVariants.{Snapshot};
-ghost use Rattle.lama_model.specs.declared.calls.Write.TheVariants.{Vertices, Add};
-ghost use Rattle.lama_model.specs.declared.calls.Call.TheVariants.{Write as WriteCall, Checkpoint};
+ghost use Rattle.lama_model.specs.declared.answers.Reply.TheVariants.{Snapshot as SeenSnapshot};
+ghost use Rattle.lama_model.specs.declared.calls.Call.TheVariants.{Write as WriteCall, Checkpoint, Look, LookAt};
+ghost use Rattle.lama_delta.specs.Pending.{IsAddition};
+ghost use Rattle.llama_main.specs.Store.{held_by, called, IsFound};
 
-use crate::list_rows::ListRows;
-use lama_base::Edge;
-use lama_base::limits::{MAX_EDGES, MAX_KEPT, MAX_VERTICES};
-use lama_model::{Refusal, Reply};
+use lama_book::{Book, Looked, Opening};
+use lama_model::{PlainRows, Reply, Write};
+use lama_pages::Steps;
 use std::alloc::{AllocError, Global};
-use std::marker::Model;
+use std::marker::{Brand, Model};
+use std::sync::ledger::{Blank, Ledger};
 
-/// How many vertices and edges there were at a checkpoint.
-#[derive(Clone, Copy, Debug, PartialEq, Eq)]
-struct Mark {
-    count: u32,
-    edges: usize,
-}
-
-/// The calls of a script, answered from a list of edges, oldest first. An accepted call costs constant time.
+/// The calls of a script, answered by a book. A ledger of its own counts the pages of each call.
 #[derive(Drop)]
-pub struct PlainStore {
-    count: u32,
-    edges: Vec<Edge>,
-    // Snapshot 1 first.
-    marks: Vec<Mark>,
-    calls: u32,
+pub struct Store {
+    book: Book,
 }
 
-impl Model for PlainStore {
-    ghost use Rattle.llama_main.specs.Store.{Held, held, IsHeld};
+impl Model for Store {
+    ghost use Rattle.lama_model.specs.Opening.{empty_opening};
+    ghost use Rattle.lama_book.specs.Relation.{IsBookOf};
+    ghost use Rattle.llama_main.specs.Store.{Held, held_by};
 
     ghost Value = { Held };
 
-    ghost view = { λ s. held s.count s.edges.items s.marks.items s.calls };
+    ghost view = { λ s. held_by s.book.journal };
 
-    ghost invariant = { λ s. IsHeld s.count s.edges.items s.marks.items };
+    ghost invariant = { λ s. IsBookOf empty_opening s.book };
 }
 
-#[tactic(auto, unfolding(lama_model::specs::Journal::after, lama_model::specs::Journal::reply_at, lama_model::specs::Journal::reply_to_write))]
-impl PlainStore {
-    ghost use Rattle.llama_main.specs.Store.{held, called};
-
+impl Store {
     /// A store without vertices, before any call.
-    pub fn new(alloc: Global) -> Self
-        ensures { result ≡ held 0 [] [] 0 }
+    pub fn new(alloc: Global) -> Result<Store, AllocError>
+        ensures { IfOk result (λ s. s ≡ held_by []) }
     {
-        PlainStore {
-            count: 0,
-            edges: Vec::new(alloc),
-            marks: Vec::new(alloc),
-            calls: 0,
-        }
+        begin::<Brand>(alloc, Blank::new(1))
     }
 
     /// How many calls were made.
     pub fn calls(&self) -> u32
         ensures { result ≡ self.now.calls }
     {
-        self.calls
+        self.book.journal().len() as u32
     }
 
-    /// Adds `n` vertices.
-    pub fn add_vertices(&mut self, n: u32) -> Reply
-        requires { self.old.calls < 4194304 }
-        ensures reply { result ≡ reply_at empty_opening self.old.standing (WriteCall (Vertices n)) }
-        ensures after { self.new ≡ called self.old (WriteCall (Vertices n)) }
-    {
-        self.calls += 1;
-        if n > MAX_VERTICES - self.count {
-            return Reply::Refused(Refusal::FullVertices);
-        }
-        self.count += n;
-        Reply::Count { count: self.count }
-    }
-
-    /// Adds the edge at the end of the list.
-    pub fn add_edge(&mut self, u: u32, v: u32, w: u64) -> Result<Reply, AllocError>
-        requires { self.old.calls < 4194304 }
-        ensures reply { IfOk result (λ r. r ≡ reply_at empty_opening self.old.standing (WriteCall (Add u v w))) }
-        ensures after { OnOk result (self.new ≡ called self.old (WriteCall (Add u v w))) }
+    /// Takes a write that adds vertices or an edge.
+    pub fn write(&mut self, w: Write) -> Result<Reply, AllocError>
+        requires room { self.old.calls < 4194304 }
+        requires addition { IsAddition w }
+        ensures reply { IfOk result (λ r. r ≡ reply_at empty_opening self.old.standing (WriteCall w)) }
+        ensures after { OnOk result (self.new ≡ called self.old (WriteCall w)) }
         ensures err { OnErr result (self.new ≡ self.old) }
     {
-        let count = self.count;
-        if u >= count {
-            self.calls += 1;
-            return Ok(Reply::Refused(Refusal::UnknownVertex { vertex: u, count }));
-        }
-        if v >= count {
-            self.calls += 1;
-            return Ok(Reply::Refused(Refusal::UnknownVertex { vertex: v, count }));
-        }
-        if self.edges.len() >= MAX_EDGES as usize {
-            self.calls += 1;
-            return Ok(Reply::Refused(Refusal::FullEdges));
-        }
-        self.edges.push(Edge {
-            source: u,
-            target: v,
-            weight: w,
-        })?;
-        self.calls += 1;
-        Ok(Reply::Accepted)
+        let Ok(reply) = self.book.write(0, w) else {
+            return Err(AllocError);
+        };
+        Ok(reply)
     }
 
     /// Makes the standing graph the graph of the next number.
     pub fn checkpoint(&mut self) -> Result<Reply, AllocError>
-        requires { self.old.calls < 4194304 }
+        requires room { self.old.calls < 4194304 }
         ensures reply { IfOk result (λ r. r ≡ reply_at empty_opening self.old.standing Checkpoint) }
         ensures after { OnOk result (self.new ≡ called self.old Checkpoint) }
         ensures err { OnErr result (self.new ≡ self.old) }
     {
-        let newest = self.marks.len() as u32;
-        if newest + 1 >= MAX_KEPT {
-            self.calls += 1;
-            return Ok(Reply::Refused(Refusal::FullKept));
-        }
-        self.marks.push(Mark {
-            count: self.count,
-            edges: self.edges.len(),
-        })?;
-        self.calls += 1;
-        Ok(Reply::Snapshot { number: newest + 1 })
+        self.checkpoint_within::<Brand>(Blank::new(1))
+    }
+
+    fn checkpoint_within<L: Ledger>(&mut self, blank: Blank) -> Result<Reply, AllocError>
+        requires name { blank.name ≡ L.name }
+        requires parts { blank.parts ≡ L.parts }
+        requires one { blank.parts ≡ 1 }
+        ensures reply { IfOk result (λ r. r ≡ reply_at empty_opening self.old.standing Checkpoint) }
+        ensures after { OnOk result (self.new ≡ called self.old Checkpoint) }
+        ensures err { OnErr result (self.new ≡ self.old) }
+    {
+        let mut pages = Steps::<L>::open(blank);
+        let Ok(reply) = self.book.checkpoint(0, &mut pages) else {
+            return Err(AllocError);
+        };
+        Ok(reply)
     }
 
     /// Looks for the newest snapshot, or for the one of a number.
-    pub fn look(&mut self, at: Option<u32>) -> Reply
-        requires { self.old.calls < 4194304 }
-        ensures reply { result ≡ reply_at empty_opening self.old.standing (look_of at) }
-        ensures after { self.new ≡ called self.old (look_of at) }
-        ensures within { (k : ℕ) → result ≡ Snapshot k → k ≤ newest_of empty_opening self.new.standing }
+    pub fn look(&mut self, at: Option<u32>) -> Result<Looked, AllocError>
+        requires room { self.old.calls < 4194304 }
+        ensures reply { IfOk result (λ l. l.reply ≡ reply_at empty_opening self.old.standing (look_of at)) }
+        ensures found { IfOk result (λ l. MatchOption l.snapshot ((k : ℕ) → l.reply ≢ SeenSnapshot k) (λ a. IsFound self.new.standing l.reply (arc_value a))) }
+        ensures after { OnOk result (self.new ≡ called self.old (look_of at)) }
+        ensures err { OnErr result (self.new ≡ self.old) }
     {
-        self.calls += 1;
-        let newest = self.marks.len() as u32;
         match at {
-            None => Reply::Snapshot { number: newest },
-            Some(k) if k <= newest => Reply::Snapshot { number: k },
-            Some(k) => Reply::Refused(Refusal::NoSnapshot {
-                asked: k,
-                oldest: 0,
-                newest,
-            }),
+            None => self.look_newest(),
+            Some(k) => self.look_at(k),
         }
     }
 
-    /// The graph of the number `k`, as a front of the list of edges.
-    pub fn graph(&self, k: u32) -> ListRows<'_>
-        requires { k ≤ newest_of empty_opening self.now.standing }
-        ensures count { result.count ≡ (graph_of empty_opening self.now.standing k).count }
-        ensures edges { result.edges.now ≡ (graph_of empty_opening self.now.standing k).edges }
+    fn look_newest(&mut self) -> Result<Looked, AllocError>
+        ensures reply { IfOk result (λ l. l.reply ≡ reply_at empty_opening self.old.standing Look) }
+        ensures found { IfOk result (λ l. MatchOption l.snapshot ((k : ℕ) → l.reply ≢ SeenSnapshot k) (λ a. IsFound self.new.standing l.reply (arc_value a))) }
+        ensures after { OnOk result (self.new ≡ called self.old Look) }
+        ensures err { OnErr result (self.new ≡ self.old) }
     {
-        if k == 0 {
-            return ListRows::new(0, &self.edges[..0]);
-        }
-        let mark = self.marks[k as usize - 1];
-        ListRows::new(mark.count, &self.edges[..mark.edges])
+        let Ok(snapshot) = self.book.look(0) else {
+            return Err(AllocError);
+        };
+        Ok(Looked {
+            reply: Reply::Snapshot {
+                number: snapshot.number(),
+            },
+            snapshot: Some(snapshot),
+        })
     }
+
+    fn look_at(&mut self, k: u32) -> Result<Looked, AllocError>
+        ensures reply { IfOk result (λ l. l.reply ≡ reply_at empty_opening self.old.standing (LookAt k)) }
+        ensures found { IfOk result (λ l. MatchOption l.snapshot ((n : ℕ) → l.reply ≢ SeenSnapshot n) (λ a. IsFound self.new.standing l.reply (arc_value a))) }
+        ensures after { OnOk result (self.new ≡ called self.old (LookAt k)) }
+        ensures err { OnErr result (self.new ≡ self.old) }
+    {
+        let Ok(looked) = self.book.look_at(0, k) else {
+            return Err(AllocError);
+        };
+        Ok(looked)
+    }
+}
+
+fn begin<L: Ledger>(alloc: Global, blank: Blank) -> Result<Store, AllocError>
+    requires name { blank.name ≡ L.name }
+    requires parts { blank.parts ≡ L.parts }
+    requires one { blank.parts ≡ 1 }
+    ensures { IfOk result (λ s. s ≡ held_by []) }
+{
+    let mut pages = Steps::<L>::open(blank);
+    let rows = PlainRows::from_edges(alloc, 0, &[])?;
+    let opening = Opening::from_rows(alloc, 0, &rows, &mut pages)?;
+    Ok(Store {
+        book: Book::new(alloc, opening)?,
+    })
 }

@@ -4,7 +4,7 @@ use Rattle.llama_main.proofs.run.run_script.Goals as goal
 
 pub returns-clause-ran : goal.returns-clause-ran
 returns-clause-ran g c =
-    Ran-concluded _ _ _ _ _ c.new-session.result c.hear-answer.new.session.interpreter.out.items c.hear-answer.new.session.interpreter.store.calls c.hear-answer.result c.status_after-status.result c.conclude.result c.new-session.ensures.start c.hear-answer.ensures.heard c.status_after-status.ensures (rw c.calls-calls.ensures at c.conclude.ensures.ends)
+    Ran-concluded _ _ _ _ _ c.in-Ok.session c.hear-answer.new.session.interpreter.out.items c.hear-answer.new.session.interpreter.store.calls c.hear-answer.result c.status_after-status.result c.conclude.result c.in-Ok.ensures.start c.hear-answer.ensures.heard c.status_after-status.ensures (rw c.calls-calls.ensures at c.conclude.ensures.ends)
 
 pub returns-clause-read_cause : goal.returns-clause-read_cause
 returns-clause-read_cause g c = λ is.
