@@ -5,6 +5,7 @@ use Rattle.std.specs.Option.{option_map, option_and_then}
 use Rattle.lama_model.specs.declared.calls.Write.TheVariants.{Vertices, Add}
 use Rattle.lama_model.specs.declared.commands.Command.{Command}
 use Rattle.lama_model.specs.declared.commands.Command.TheVariants.{Write as Writes, Checkpoint as Checkpoints, Read as Reads}
+use Rattle.lama_model.specs.declared.commands.Read.{Read}
 use Rattle.lama_model.specs.declared.commands.Read.TheVariants.{Row}
 
 abbrev pub is_line_feed : ℕ → Bool
@@ -71,11 +72,25 @@ abbrev pub checkpoint_command : List (List ℕ) → Option Command
 checkpoint_command [] = Some Checkpoints
 checkpoint_command (more ∷ args) = None
 
--- a row of the newest snapshot
-abbrev pub row_command : List (List ℕ) → Option Command
-row_command [] = None
-row_command (v ∷ []) = option_map (λ v. Reads None (Row v)) (number v)
-row_command (v ∷ more ∷ args) = None
+abbrev pub row_read : List (List ℕ) → Option Read
+row_read [] = None
+row_read (v ∷ []) = option_map (λ v. Row v) (number v)
+row_read (v ∷ more ∷ args) = None
+
+-- what is read by a word and the words after it
+unfoldable pub read_of : List ℕ → List (List ℕ) → Option Read
+read_of word args = if bytes_eq word (codes "row") then row_read args else None
+
+-- what stands behind an at sign at the front of a word
+abbrev pub behind_at : List ℕ → Option (List ℕ)
+behind_at [] = None
+behind_at (b ∷ bs) = if b == 64 then Some bs else None
+
+-- a reading command: of the snapshot of a number, where a word `@K` stands before it, or of the newest one
+abbrev pub reading_of : Option (List ℕ) → List ℕ → List (List ℕ) → Option Command
+reading_of None word args = option_map (λ what. Reads None what) (read_of word args)
+reading_of (Some digits) word [] = None
+reading_of (Some digits) word (name ∷ args) = option_and_then (λ k. option_map (λ what. Reads (Some k) what) (read_of name args)) (number digits)
 
 -- the command that the words spell, first word first
 unfoldable pub command_of : List ℕ → List (List ℕ) → Option Command
@@ -83,8 +98,7 @@ command_of word args =
     if bytes_eq word (codes "vertices") then vertices_command args
     else (if bytes_eq word (codes "add") then add_command args
     else (if bytes_eq word (codes "checkpoint") then checkpoint_command args
-    else (if bytes_eq word (codes "row") then row_command args
-    else None)))
+    else reading_of (behind_at word) word args))
 
 -- what a line says
 pub data Meaning : Type 0 where

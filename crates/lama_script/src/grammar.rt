@@ -1,8 +1,8 @@
 //! The grammar of a script's lines: words, numbers and commands.
 
-ghost use Rattle.std.specs.Prelude.{◌≡◌, [], ◌∷◌, not, length, MatchOption, IsTrue, ◌↔◌};
+ghost use Rattle.std.specs.Prelude.{◌≡◌, [], ◌∷◌, not, length, MatchOption, None, Some, IsTrue, ◌↔◌};
 ghost use Rattle.std.specs.List.{position};
-ghost use Rattle.lama_model.specs.Script.{words, number, vertices_command, add_command, checkpoint_command, row_command, command_of, meaning, without_return};
+ghost use Rattle.lama_model.specs.Script.{words, number, vertices_command, add_command, checkpoint_command, row_read, read_of, behind_at, reading_of, command_of, meaning, without_return};
 ghost use Rattle.lama_model.specs.Script as grammar;
 ghost use Rattle.lama_script.specs.Parsing.{answer_to};
 
@@ -108,7 +108,41 @@ fn command(word: &[u8], args: &[u8]) -> Option<Command>
         add(args)
     } else if word == b"checkpoint".as_slice() {
         checkpoint(args)
-    } else if word == b"row".as_slice() {
+    } else {
+        reading(word, args)
+    }
+}
+
+/// A reading command: of the snapshot of a number, where a word `@K` stands before it, or of the newest one.
+fn reading(word: &[u8], args: &[u8]) -> Option<Command>
+    ensures { result ≡ reading_of (behind_at word.now) word.now (words args.now) }
+{
+    let Some(digits) = behind_at(word) else {
+        let what = read(word, args)?;
+        return Some(Command::Read { at: None, what });
+    };
+    let (name, args) = first_word(args)?;
+    let k = number(digits)?;
+    let what = read(name, args)?;
+    Some(Command::Read { at: Some(k), what })
+}
+
+/// What stands behind an at sign at the front of the word.
+fn behind_at(word: &[u8]) -> Option<&[u8]>
+    ensures { MatchOption result (grammar.behind_at word.now ≡ None) (λ digits. grammar.behind_at word.now ≡ Some digits.now) }
+{
+    if word.is_empty() || word[0] != b'@' {
+        return None;
+    }
+    Some(&word[1..])
+}
+
+/// What is read by the word and the words after it.
+#[tactic(auto, unfolding(lama_model::specs::Script::read_of))]
+fn read(word: &[u8], args: &[u8]) -> Option<Read>
+    ensures { result ≡ read_of word.now (words args.now) }
+{
+    if word == b"row".as_slice() {
         row(args)
     } else {
         None
@@ -151,16 +185,12 @@ fn checkpoint(args: &[u8]) -> Option<Command>
     is_end(args).then_some(Command::Checkpoint)
 }
 
-fn row(args: &[u8]) -> Option<Command>
-    ensures { result ≡ row_command (words args.now) }
+fn row(args: &[u8]) -> Option<Read>
+    ensures { result ≡ row_read (words args.now) }
 {
     let (vertex, rest) = first_word(args)?;
     if !is_end(rest) {
         return None;
     }
-    let v = number(vertex)?;
-    Some(Command::Read {
-        at: None,
-        what: Read::Row { v },
-    })
+    Some(Read::Row { v: number(vertex)? })
 }

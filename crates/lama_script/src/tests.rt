@@ -33,6 +33,29 @@ fn row(v: u32) -> Answer {
     })
 }
 
+fn row_at(k: u32, v: u32) -> Answer {
+    says(Command::Read {
+        at: Some(k),
+        what: Read::Row { v },
+    })
+}
+
+#[test]
+fn a_number_behind_an_at_sign_names_a_snapshot(rt: HostRuntime) {
+    assert_eq!(rt; answer(b"@7 row 3"), row_at(7, 3));
+    assert_eq!(rt; answer(b" @007\trow  0003 "), row_at(7, 3));
+    assert_eq!(rt; answer(b"@4294967295 row 0"), row_at(4_294_967_295, 0));
+    assert_eq!(rt; answer(b"@4294967296 row 0"), BAD);
+    assert_eq!(rt; answer(b"@ row 0"), BAD);
+    assert_eq!(rt; answer(b"@ 7 row 0"), BAD);
+    assert_eq!(rt; answer(b"@7"), BAD);
+    assert_eq!(rt; answer(b"@7 row"), BAD);
+    assert_eq!(rt; answer(b"@7 row 0 0"), BAD);
+    assert_eq!(rt; answer(b"@7 @7 row 0"), BAD);
+    assert_eq!(rt; answer(b"@7 checkpoint"), BAD);
+    assert_eq!(rt; answer(b"7 row 0"), BAD);
+}
+
 fn answer(line: &[u8]) -> Answer {
     Parser::plain().line(line)
 }

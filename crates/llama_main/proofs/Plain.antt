@@ -1,12 +1,12 @@
 -- What a line says is a command that the plain store answers.
-use Rattle.std.proofs.Common.{◌≡◌, ℕ, Bool, true, false, cond, List, [], ◌∷◌, length, subst, Option, Some, None, option_map}
+use Rattle.std.proofs.Common.{◌≡◌, ℕ, Bool, true, false, cond, List, [], ◌∷◌, length, subst, Option, Some, None, option_map, option_and_then}
 use Rattle.std.specs.Prelude.{nat_lt, bytes_eq, codes, IfSome}
-use Rattle.lama_model.specs.Script.{Meaning, meaning, meaning_of_words, said_or_bad, command_of, vertices_command, add_command, add_of, checkpoint_command, row_command, number, words, without_return, is_comment}
+use Rattle.lama_model.specs.Script.{Meaning, meaning, meaning_of_words, said_or_bad, command_of, vertices_command, add_command, add_of, checkpoint_command, read_of, behind_at, reading_of, number, words, without_return, is_comment}
 use Rattle.lama_model.specs.Script.Meaning.{Skipped, Says, Bad}
 use Rattle.lama_model.specs.declared.commands.Command.{Command}
 use Rattle.lama_model.specs.declared.calls.Write.TheVariants.{Vertices}
 use Rattle.lama_model.specs.declared.commands.Command.TheVariants.{Write as Writes, Read as Reads}
-use Rattle.lama_model.specs.declared.commands.Read.TheVariants.{Row}
+use Rattle.lama_model.specs.declared.commands.Read.{Read}
 use Rattle.llama_main.specs.Outlook.{IsPlain}
 
 -- each option's command is plain
@@ -39,20 +39,26 @@ plain_checkpoint : (args : List (List ℕ)) → ArePlain (checkpoint_command arg
 plain_checkpoint [] = tt
 plain_checkpoint (more ∷ args) = tt
 
-plain_row : (args : List (List ℕ)) → ArePlain (row_command args)
-plain_row [] = tt
-plain_row (v ∷ []) = elim (number v) as (λ o. ArePlain (option_map (λ v. Reads None (Row v)) o)) [ Some x ↦ tt | None ↦ tt ]
-plain_row (v ∷ more ∷ args) = tt
+plain_reads : (at : Option ℕ) (what : Option Read) → ArePlain (option_map (λ what. Reads at what) what)
+plain_reads at None = tt
+plain_reads at (Some what) = tt
+
+plain_at : (k : Option ℕ) (what : Option Read) → ArePlain (option_and_then (λ k. option_map (λ what. Reads (Some k) what) what) k)
+plain_at None what = tt
+plain_at (Some k) what = plain_reads (Some k) what
+
+plain_reading : (at : Option (List ℕ)) (word : List ℕ) (args : List (List ℕ)) → ArePlain (reading_of at word args)
+plain_reading None word args = plain_reads None (read_of word args)
+plain_reading (Some digits) word [] = tt
+plain_reading (Some digits) word (name ∷ args) = plain_at (number digits) (read_of name args)
 
 plain_command : (word : List ℕ) (args : List (List ℕ)) → ArePlain (command_of word args)
 unfolding command_of
 plain_command word args =
-    let row : Option Command = cond (bytes_eq word (codes "row")) (row_command args) None in
-    let checkpoint : Option Command = cond (bytes_eq word (codes "checkpoint")) (checkpoint_command args) row in
+    let reading : Option Command = reading_of (behind_at word) word args in
+    let checkpoint : Option Command = cond (bytes_eq word (codes "checkpoint")) (checkpoint_command args) reading in
     let add : Option Command = cond (bytes_eq word (codes "add")) (add_command args) checkpoint in
-    let none : ArePlain None = tt {0} in
-    let plain_rows : ArePlain row = either (bytes_eq word (codes "row")) (row_command args) None (plain_row args) none in
-    let plain_checkpoints : ArePlain checkpoint = either (bytes_eq word (codes "checkpoint")) (checkpoint_command args) row (plain_checkpoint args) plain_rows in
+    let plain_checkpoints : ArePlain checkpoint = either (bytes_eq word (codes "checkpoint")) (checkpoint_command args) reading (plain_checkpoint args) (plain_reading (behind_at word) word args) in
     let plain_all : ArePlain add = either (bytes_eq word (codes "add")) (add_command args) checkpoint (plain_adds args) plain_checkpoints in
     either (bytes_eq word (codes "vertices")) (vertices_command args) add (plain_vertices args) plain_all
 
