@@ -5,7 +5,9 @@ ghost use Rattle.lama_model.specs.Opening.{Opening as ModelOpening};
 ghost use Rattle.lama_model.specs.Journal.{reply, is_accepted, edges_added};
 ghost use Rattle.lama_model.specs.Graph.{effect};
 ghost use Rattle.lama_model.specs.declared.calls.Call.TheVariants.{Write as SeenWrite, Checkpoint as SeenCheckpoint, Look as SeenLook, LookAt as SeenLookAt};
+ghost use Rattle.lama_model.specs.declared.answers.Refusal.{Refusal as SeenRefusal};
 ghost use Rattle.lama_model.specs.declared.answers.Reply.TheVariants.{Snapshot as SeenSnapshot, Refused as SeenRefused};
+ghost use Rattle.lama_snapshot.specs.Snap.{floor_of};
 ghost use Rattle.lama_delta.specs.Pending.{IsAddition};
 ghost use Rattle.lama_book.specs.declared.fault.CallFault.TheVariants.{JournalFull, NoMemory};
 ghost use Rattle.lama_book.specs.Book.{newest_number, last_snap, snap_at, answers, next_change, IsRoomier, HasEntry, HasWrite, HasNext, HasCheckpoint, IsNext};
@@ -76,17 +78,23 @@ impl Book {
         })
     }
 
-    /// How many entries more take no memory.
-    pub fn spare(&self) -> usize
+    /// How many writes more take no memory, which is at most [`lama_base::limits::MAX_JOURNAL`].
+    pub fn spare(&self) -> u32
         ensures { result ≡ self.now.spare }
     {
         let room = self.journal.capacity() - self.journal.len();
         let pending = self.delta.spare();
-        if pending < room { pending } else { room }
+        let spare = if pending < room { pending } else { room };
+        if spare < MAX_JOURNAL as usize {
+            spare as u32
+        } else {
+            MAX_JOURNAL
+        }
     }
 
-    /// Makes room for `n` entries.
+    /// Makes room for `n` entries, of which each takes at most one.
     pub fn reserve(&mut self, n: u32) -> Result<(), AllocError>
+        requires { n ≤ 4194304 }
         ensures same { IsRoomier self.old self.new }
         ensures room { OnOk result (n ≤ self.new.spare) }
     {
@@ -128,6 +136,8 @@ impl Book {
         ensures fault { OnErr result (IsRoomier self.old self.new) }
         ensures full { (result ≡ SeenErr JournalFull) ↔ (length self.old.journal ≡ 4194304) }
         ensures made { pages.new ≤ pages.old + checkpoint_pages (next_change self.old) }
+        ensures none_made { (r : SeenRefusal) → result ≡ SeenOk (SeenRefused r) → pages.new ≡ pages.old }
+        ensures none_in_full { result ≡ SeenErr JournalFull → pages.new ≡ pages.old }
     {
         self.enter()?;
         let entry = Entry {
@@ -234,6 +244,13 @@ impl Book {
         ensures { result ≡ newest_number self.now }
     {
         self.oldest + (self.kept.len() - 1) as u32
+    }
+
+    /// The floor of the newest snapshot: the number of its base.
+    pub fn floor(&self) -> u32
+        ensures { result ≡ floor_of (last_snap self.now) }
+    {
+        self.kept[self.kept.len() - 1].floor()
     }
 
     // Before a call: there is room for its entry and for a write.
