@@ -44,14 +44,14 @@ lines_of-printed journal (Reads at what) =
 
 -- the outcome of a script that was read so, after a journal
 abbrev outcome_of : List Entry → Script → Outcome
-outcome_of journal s = record { text = text_of empty_opening journal s; end = s.end }
+outcome_of journal s = record { text = text_of empty_opening journal s; end = s.end; journal = (tell empty_opening journal s.items).journal }
 
 -- the same text before the rest, grouped the other way
 outcome_of-says : (journal : List Entry) (n : ℕ) (c : Command) (s : Script) → outcome_of journal (with_line n (Says c) s) ≡ behind (printed (held_by journal) c) (outcome_of (journal_after empty_opening journal 0 c) s)
 outcome_of-says journal n c s =
     let later = tell empty_opening (journal_after empty_opening journal 0 c) s.items in
     let last = last_line (length later.journal) s.end in
-    ap (λ (text : List ℕ). let o : Outcome = record { text = text; end = s.end } in o) (append_assoc (lines_of empty_opening journal 0 c) later.said last ∙ ap (λ (said : List ℕ). said ++ (later.said ++ last)) (lines_of-printed journal c))
+    ap (λ (text : List ℕ). let o : Outcome = record { text = text; end = s.end; journal = later.journal } in o) (append_assoc (lines_of empty_opening journal 0 c) later.said last ∙ ap (λ (said : List ℕ). said ++ (later.said ++ last)) (lines_of-printed journal c))
 
 -- one line more, by what it says, where the rest is known
 line-following : (journal : List Entry) (n : ℕ) (rest : List (List ℕ)) (m : Meaning) → ((j : List Entry) → outcome_of j (script_from (n + 1) rest) ≡ outlook_at (held_by j) (n + 1) rest) → outcome_of journal (with_line n m (script_from (n + 1) rest)) ≡ following (held_by journal) n m (λ g. outlook_at g (n + 1) rest)

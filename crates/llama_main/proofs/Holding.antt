@@ -24,9 +24,7 @@ use Rattle.llama_main.specs.Store.{Held, held_by, called, IsFound}
 pub held_by-push : (journal : List Entry) (call : Call) → held_by (journal ++ entry 0 call ∷ []) ≡ called (held_by journal) call
 unfolding standing
 held_by-push journal call =
-    let left : standing empty_opening (journal ++ entry 0 call ∷ []) ≡ after empty_opening (standing empty_opening journal) call = fold-append (λ (s : Standing) (e : Entry). after empty_opening s e.call) (begun empty_opening) journal (entry 0 call ∷ []) in
-    let more : length (journal ++ entry 0 call ∷ []) ≡ length journal + 1 = length-append journal (entry 0 call ∷ []) in
-    rw (left, more) refl
+    ap (λ t. let h : Held = record { journal = journal ++ entry 0 call ∷ []; standing = t } in h) (fold-append (λ (s : Standing) (e : Entry). after empty_opening s e.call) (begun empty_opening) journal (entry 0 call ∷ []))
 
 -- what a call leaves where its entry stands at the end of the journal
 pub holds : (j j' : List Entry) (h : Held) (call : Call) → j' ≡ j ++ record { caller = 0; call = call } ∷ [] → held_by j ≡ h → held_by j' ≡ called h call

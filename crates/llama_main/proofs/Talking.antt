@@ -6,6 +6,7 @@ use Rattle.std.proofs.lemmas.List.Elements.{All-append}
 use Rattle.lama_model.specs.Script.{lines, is_line_feed}
 use Rattle.lama_model.specs.Script.End.{BadAt, TooMany}
 use Rattle.lama_model.specs.Lines.{last_line}
+use Rattle.lama_model.specs.declared.calls.Entry.{Entry}
 use Rattle.llama_main.specs.declared.stop.Stop.{Stop}
 use Rattle.llama_main.specs.declared.stop.Stop.TheVariants.{BadLine, TooManyLines, ReadFault, WriteFault, NoMemory}
 use Rattle.llama_main.specs.declared.session.Session.{Session}
@@ -29,14 +30,14 @@ pub outlook-last : (i : Interpreter) (carry : List ℕ) → HasNoFeed carry → 
 outlook-last i carry none some = ap (outlook i) (ap lines (append-nil carry) ∙ lines-last carry none some)
 
 -- a byte after the last line that is taken
-pub outlook-many : (i : Interpreter) (bytes : List ℕ) → 0 < length bytes → 2097152 ≤ i.parser.taken → outlook i (lines bytes) ≡ last_of i.out.items TooMany
+pub outlook-many : (i : Interpreter) (bytes : List ℕ) → 0 < length bytes → 2097152 ≤ i.parser.taken → outlook i (lines bytes) ≡ last_of i.out.items i.store.journal TooMany
 outlook-many i [] some many = absurd (omega arith)
 outlook-many i (b ∷ bytes) some many =
     let cut = lines-some b bytes in
     ap (outlook i) cut.1.1 ∙ goes_many i.store (i.parser.taken + 1) i.out.items cut.0 cut.1.0 (omega arith)
 
 -- a line that is too long before its end has come
-pub outlook-long : (i : Interpreter) (line more : List ℕ) → HasNoFeed line → 1024 < length line → i.parser.taken < 2097152 → outlook i (lines (line ++ more)) ≡ last_of i.out.items (BadAt (i.parser.taken + 1))
+pub outlook-long : (i : Interpreter) (line more : List ℕ) → HasNoFeed line → 1024 < length line → i.parser.taken < 2097152 → outlook i (lines (line ++ more)) ≡ last_of i.out.items i.store.journal (BadAt (i.parser.taken + 1))
 outlook-long i line more none long few =
     let begun = lines-begun line more none (omega arith) in
     ap (outlook i) begun.is ∙ goes_bad i.store (i.parser.taken + 1) (i.parser.taken + 1) i.out.items (line ++ begun.part) begun.rest
@@ -46,17 +47,17 @@ outlook-long i line more none long few =
     })
 
 -- what was written before counts to what was said
-pub StopsAt-behind : (stop : Stop) (said out : List ℕ) (whole : Outcome) → StopsAt stop out whole → StopsAt stop (said ++ out) (behind said whole)
-StopsAt-behind (BadLine n) said out whole h =
-    ap (behind said) h ∙ ap (λ (text : List ℕ). let o : Outcome = record { text = text; end = BadAt n } in o) (sym (append_assoc said out (last_line 0 (BadAt n))))
-StopsAt-behind TooManyLines said out whole h =
-    ap (behind said) h ∙ ap (λ (text : List ℕ). let o : Outcome = record { text = text; end = TooMany } in o) (sym (append_assoc said out (last_line 0 TooMany)))
-StopsAt-behind ReadFault said out whole h = (h.0, ap (λ (xs : List ℕ). said ++ xs) h.1 ∙ sym (append_assoc said out h.0))
-StopsAt-behind WriteFault said out whole h = (h.0, ap (λ (xs : List ℕ). said ++ xs) h.1 ∙ sym (append_assoc said out h.0))
-StopsAt-behind NoMemory said out whole h = (h.0, ap (λ (xs : List ℕ). said ++ xs) h.1 ∙ sym (append_assoc said out h.0))
+pub StopsAt-behind : (stop : Stop) (said out : List ℕ) (journal : List Entry) (whole : Outcome) → StopsAt stop out journal whole → StopsAt stop (said ++ out) journal (behind said whole)
+StopsAt-behind (BadLine n) said out journal whole h =
+    ap (behind said) h ∙ ap (λ (text : List ℕ). let o : Outcome = record { text = text; end = BadAt n; journal = journal } in o) (sym (append_assoc said out (last_line 0 (BadAt n))))
+StopsAt-behind TooManyLines said out journal whole h =
+    ap (behind said) h ∙ ap (λ (text : List ℕ). let o : Outcome = record { text = text; end = TooMany; journal = journal } in o) (sym (append_assoc said out (last_line 0 TooMany)))
+StopsAt-behind ReadFault said out journal whole h = (h.0, ap (λ (xs : List ℕ). said ++ xs) h.1 ∙ sym (append_assoc said out h.0))
+StopsAt-behind WriteFault said out journal whole h = (h.0, ap (λ (xs : List ℕ). said ++ xs) h.1 ∙ sym (append_assoc said out h.0))
+StopsAt-behind NoMemory said out journal whole h = (h.0, ap (λ (xs : List ℕ). said ++ xs) h.1 ∙ sym (append_assoc said out h.0))
 
 behind-behind : (xs ys : List ℕ) (o : Outcome) → behind xs (behind ys o) ≡ behind (xs ++ ys) o
-behind-behind xs ys o = ap (λ (text : List ℕ). let r : Outcome = record { text = text; end = o.end } in r) (sym (append_assoc xs ys o.text))
+behind-behind xs ys o = ap (λ (text : List ℕ). let r : Outcome = record { text = text; end = o.end; journal = o.journal } in r) (sym (append_assoc xs ys o.text))
 
 -- a rest begins with its first line
 pub cut_line : (rest : List ℕ) (end : ℕ) → end < length rest → get_or rest end 0 ≡ 10 → rest ≡ take end rest ++ 10 ∷ drop (end + 1) rest
@@ -81,14 +82,14 @@ Wrote-line a b c s t u v front part first line last = record {
 }
 
 -- a stop after a front of the piece
-pub Stopped-after : (a b c : Option (List ℕ)) (s t : Session) (front rest out said : List ℕ) (stop : Stop) → Wrote a b s t front → Appends b c said → ((more : List ℕ) → StopsAt stop (said ++ out) (foreseen t (rest ++ more))) → Stopped a c s (front ++ rest) out stop
-Stopped-after a b c s t front rest out said stop first appended stops = record {
+pub Stopped-after : (a b c : Option (List ℕ)) (s t : Session) (front rest out said : List ℕ) (journal : List Entry) (stop : Stop) → Wrote a b s t front → Appends b c said → ((more : List ℕ) → StopsAt stop (said ++ out) journal (foreseen t (rest ++ more))) → Stopped a c s (front ++ rest) out journal stop
+Stopped-after a b c s t front rest out said journal stop first appended stops = record {
   said = first.said ++ said;
   appended = Appends-append a b c first.said said first.appended appended;
   stops = λ more.
-      subst (λ (xs : List ℕ). StopsAt stop xs (foreseen s ((front ++ rest) ++ more))) (sym (append_assoc first.said said out))
-      (subst (StopsAt stop (first.said ++ (said ++ out))) (sym (ap (foreseen s) (append_assoc front rest more) ∙ first.kept (rest ++ more)))
-      (StopsAt-behind stop first.said (said ++ out) (foreseen t (rest ++ more)) (stops more)));
+      subst (λ (xs : List ℕ). StopsAt stop xs journal (foreseen s ((front ++ rest) ++ more))) (sym (append_assoc first.said said out))
+      (subst (StopsAt stop (first.said ++ (said ++ out)) journal) (sym (ap (foreseen s) (append_assoc front rest more) ∙ first.kept (rest ++ more)))
+      (StopsAt-behind stop first.said (said ++ out) journal (foreseen t (rest ++ more)) (stops more)));
 }
 
 pub empty_list : (xs : List ℕ) → eqb (length xs) 0 ≡ true → xs ≡ []
@@ -104,18 +105,18 @@ pub part-taken : (i j : Interpreter) (carry part line after : List ℕ) → HasN
 part-taken i j carry part line after none none' is gone taken more =
     outlook-line i carry part more none none' ∙ (ap (λ (l : List ℕ). outlook i (l ∷ lines more)) (sym is) ∙ (taken (lines more) ∙ ap (λ (xs : List ℕ). outlook j (lines (xs ++ more))) (sym gone)))
 
-pub part-stopped : (i : Interpreter) (stop : Stop) (out carry part line : List ℕ) → HasNoFeed carry → HasNoFeed part → line ≡ carry ++ part → ((rest : List (List ℕ)) → StopsAt stop out (outlook i (line ∷ rest))) → (more : List ℕ) → StopsAt stop out (outlook i (lines (carry ++ (part ++ 10 ∷ more))))
-part-stopped i stop out carry part line none none' is stops more =
-    subst (StopsAt stop out) (sym (outlook-line i carry part more none none' ∙ ap (λ (l : List ℕ). outlook i (l ∷ lines more)) (sym is))) (stops (lines more))
+pub part-stopped : (i : Interpreter) (stop : Stop) (out carry part line : List ℕ) (journal : List Entry) → HasNoFeed carry → HasNoFeed part → line ≡ carry ++ part → ((rest : List (List ℕ)) → StopsAt stop out journal (outlook i (line ∷ rest))) → (more : List ℕ) → StopsAt stop out journal (outlook i (lines (carry ++ (part ++ 10 ∷ more))))
+part-stopped i stop out carry part line journal none none' is stops more =
+    subst (StopsAt stop out journal) (sym (outlook-line i carry part more none none' ∙ ap (λ (l : List ℕ). outlook i (l ∷ lines more)) (sym is))) (stops (lines more))
 
 -- a last line that was taken
 pub last-taken : (i j : Interpreter) (carry line after : List ℕ) → HasNoFeed carry → 0 < length carry → line ≡ carry → after ≡ [] → ((rest : List (List ℕ)) → outlook i (line ∷ rest) ≡ outlook j rest) → outlook i (lines (carry ++ [])) ≡ outlook j (lines (after ++ []))
 last-taken i j carry line after none some is gone taken =
     outlook-last i carry none some ∙ (ap (λ (l : List ℕ). outlook i (l ∷ [])) (sym is) ∙ (taken [] ∙ (ap (outlook j) (sym lines-nil) ∙ ap (λ (xs : List ℕ). outlook j (lines (xs ++ []))) (sym gone))))
 
-pub last-stopped : (i : Interpreter) (stop : Stop) (out carry line : List ℕ) → HasNoFeed carry → 0 < length carry → line ≡ carry → ((rest : List (List ℕ)) → StopsAt stop out (outlook i (line ∷ rest))) → StopsAt stop out (outlook i (lines (carry ++ [])))
-last-stopped i stop out carry line none some is stops =
-    subst (StopsAt stop out) (sym (outlook-last i carry none some ∙ ap (λ (l : List ℕ). outlook i (l ∷ [])) (sym is))) (stops [])
+pub last-stopped : (i : Interpreter) (stop : Stop) (out carry line : List ℕ) (journal : List Entry) → HasNoFeed carry → 0 < length carry → line ≡ carry → ((rest : List (List ℕ)) → StopsAt stop out journal (outlook i (line ∷ rest))) → StopsAt stop out journal (outlook i (lines (carry ++ [])))
+last-stopped i stop out carry line journal none some is stops =
+    subst (StopsAt stop out journal) (sym (outlook-last i carry none some ∙ ap (λ (l : List ℕ). outlook i (l ∷ [])) (sym is))) (stops [])
 
 regroup : (a b c : List ℕ) → a ++ (b ++ 10 ∷ c) ≡ (a ++ (b ++ 10 ∷ [])) ++ c
 regroup a b c = sym (append_assoc a (b ++ 10 ∷ []) c ∙ ap (λ (xs : List ℕ). a ++ xs) (append_assoc b (10 ∷ []) c))
@@ -125,21 +126,21 @@ pub piece-line : (piece front rest line after : List ℕ) → piece ≡ front ++
 piece-line piece front rest line after is cut = is ∙ (ap (λ (xs : List ℕ). front ++ xs) cut ∙ regroup front line after)
 
 -- a stop at what is left of the piece, with nothing written
-pub stop-in-rest : (a b : Option (List ℕ)) (s t : Session) (piece front rest out : List ℕ) (stop : Stop) → piece ≡ front ++ rest → Wrote a b s t front → ((more : List ℕ) → StopsAt stop out (foreseen t (rest ++ more))) → Stopped a b s piece out stop
-stop-in-rest a b s t piece front rest out stop is wrote stops =
-    subst (λ (xs : List ℕ). Stopped a b s xs out stop) (sym is) (Stopped-after a b b s t front rest out [] stop wrote (Appends-none b) stops)
+pub stop-in-rest : (a b : Option (List ℕ)) (s t : Session) (piece front rest out : List ℕ) (journal : List Entry) (stop : Stop) → piece ≡ front ++ rest → Wrote a b s t front → ((more : List ℕ) → StopsAt stop out journal (foreseen t (rest ++ more))) → Stopped a b s piece out journal stop
+stop-in-rest a b s t piece front rest out journal stop is wrote stops =
+    subst (λ (xs : List ℕ). Stopped a b s xs out journal stop) (sym is) (Stopped-after a b b s t front rest out [] journal stop wrote (Appends-none b) stops)
 
 line-more : (t : Session) (rest line after more : List ℕ) → rest ≡ line ++ 10 ∷ after → foreseen t (rest ++ more) ≡ foreseen t (line ++ 10 ∷ (after ++ more))
 line-more t rest line after more cut = ap (foreseen t) (ap (λ (xs : List ℕ). xs ++ more) cut ∙ append_assoc line (10 ∷ after) more)
 
 -- a stop at the next line
-pub stop-in-line : (a b : Option (List ℕ)) (s t : Session) (piece front rest line after out : List ℕ) (stop : Stop) → piece ≡ front ++ rest → rest ≡ line ++ 10 ∷ after → Wrote a b s t front → ((more : List ℕ) → StopsAt stop out (foreseen t (line ++ 10 ∷ more))) → Stopped a b s piece out stop
-stop-in-line a b s t piece front rest line after out stop is cut wrote stops =
-    stop-in-rest a b s t piece front rest out stop is wrote (λ more. subst (StopsAt stop out) (sym (line-more t rest line after more cut)) (stops (after ++ more)))
+pub stop-in-line : (a b : Option (List ℕ)) (s t : Session) (piece front rest line after out : List ℕ) (journal : List Entry) (stop : Stop) → piece ≡ front ++ rest → rest ≡ line ++ 10 ∷ after → Wrote a b s t front → ((more : List ℕ) → StopsAt stop out journal (foreseen t (line ++ 10 ∷ more))) → Stopped a b s piece out journal stop
+stop-in-line a b s t piece front rest line after out journal stop is cut wrote stops =
+    stop-in-rest a b s t piece front rest out journal stop is wrote (λ more. subst (StopsAt stop out journal) (sym (line-more t rest line after more cut)) (stops (after ++ more)))
 
 -- a stop at writing what the next line printed
-pub stop-in-writing : (a b c : Option (List ℕ)) (s t u : Session) (piece front rest line after out : List ℕ) (stop : Stop) → piece ≡ front ++ rest → rest ≡ line ++ 10 ∷ after → Wrote a b s t front → ((more : List ℕ) → foreseen t (line ++ 10 ∷ more) ≡ foreseen u more) → Stopped b c u [] out stop → Stopped a c s piece out stop
-stop-in-writing a b c s t u piece front rest line after out stop is cut wrote took stopped =
-    subst (λ (xs : List ℕ). Stopped a c s xs out stop) (sym is)
-    (Stopped-after a b c s t front rest out stopped.said stop wrote stopped.appended
-    (λ more. subst (StopsAt stop (stopped.said ++ out)) (sym (line-more t rest line after more cut ∙ took (after ++ more))) (stopped.stops (after ++ more))))
+pub stop-in-writing : (a b c : Option (List ℕ)) (s t u : Session) (piece front rest line after out : List ℕ) (journal : List Entry) (stop : Stop) → piece ≡ front ++ rest → rest ≡ line ++ 10 ∷ after → Wrote a b s t front → ((more : List ℕ) → foreseen t (line ++ 10 ∷ more) ≡ foreseen u more) → Stopped b c u [] out journal stop → Stopped a c s piece out journal stop
+stop-in-writing a b c s t u piece front rest line after out journal stop is cut wrote took stopped =
+    subst (λ (xs : List ℕ). Stopped a c s xs out journal stop) (sym is)
+    (Stopped-after a b c s t front rest out stopped.said journal stop wrote stopped.appended
+    (λ more. subst (StopsAt stop (stopped.said ++ out) journal) (sym (line-more t rest line after more cut ∙ took (after ++ more))) (stopped.stops (after ++ more))))

@@ -73,14 +73,14 @@ goes_skipped h n out line rest t = ap (behind out) (outlook_at-line h n line res
 pub goes_says : (h : Held) (n : ℕ) (out line : List ℕ) (rest : List (List ℕ)) (c : Command) → Tells n line (Says c) → behind out (outlook_at h n (line ∷ rest)) ≡ behind (out ++ printed h c) (outlook_at (held_after h c) (n + 1) rest)
 goes_says h n out line rest c t =
     let later = outlook_at (held_after h c) (n + 1) rest in
-    ap (behind out) (outlook_at-line h n line rest t.few ∙ ap (λ (m : Meaning). following h n m (λ g. outlook_at g (n + 1) rest)) t.says) ∙ ap (λ (text : List ℕ). let o : Outcome = record { text = text; end = later.end } in o) (sym (append_assoc out (printed h c) later.text))
+    ap (behind out) (outlook_at-line h n line rest t.few ∙ ap (λ (m : Meaning). following h n m (λ g. outlook_at g (n + 1) rest)) t.says) ∙ ap (λ (text : List ℕ). let o : Outcome = record { text = text; end = later.end; journal = later.journal } in o) (sym (append_assoc out (printed h c) later.text))
 
-pub goes_bad : (h : Held) (n m : ℕ) (out line : List ℕ) (rest : List (List ℕ)) → TellsBad n m line → behind out (outlook_at h n (line ∷ rest)) ≡ last_of out (BadAt m)
+pub goes_bad : (h : Held) (n m : ℕ) (out line : List ℕ) (rest : List (List ℕ)) → TellsBad n m line → behind out (outlook_at h n (line ∷ rest)) ≡ last_of out h.journal (BadAt m)
 unfolding last_line
 goes_bad h n m out line rest t =
-    ap (behind out) (outlook_at-line h n line rest t.bad.few ∙ ap (λ (m : Meaning). following h n m (λ g. outlook_at g (n + 1) rest)) t.bad.says) ∙ ap (λ (k : ℕ). last_of out (BadAt k)) (sym t.number)
+    ap (behind out) (outlook_at-line h n line rest t.bad.few ∙ ap (λ (m : Meaning). following h n m (λ g. outlook_at g (n + 1) rest)) t.bad.says) ∙ ap (λ (k : ℕ). last_of out h.journal (BadAt k)) (sym t.number)
 
-pub goes_many : (h : Held) (n : ℕ) (out line : List ℕ) (rest : List (List ℕ)) → 2097152 < n → behind out (outlook_at h n (line ∷ rest)) ≡ last_of out TooMany
+pub goes_many : (h : Held) (n : ℕ) (out line : List ℕ) (rest : List (List ℕ)) → 2097152 < n → behind out (outlook_at h n (line ∷ rest)) ≡ last_of out h.journal TooMany
 unfolding last_line
 goes_many h n out line rest many = ap (behind out) (outlook_at-many h n line rest many)
 

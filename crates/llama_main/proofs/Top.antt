@@ -1,15 +1,20 @@
 -- What a run says, whether its words were in the grammar or not.
-use Rattle.std.proofs.Common.{◌≡◌, ℕ, List, [], ◌∷◌, refl, sym, subst, Option, ◌⊎◌, inl, inr}
-use Rattle.std.specs.Prelude.{IfSome}
+use Rattle.std.proofs.Common.{◌≡◌, ℕ, List, [], ◌∷◌, refl, sym, ap, subst, ◌∙◌, Option, Some, None, ◌⊎◌, inl, inr}
+use Rattle.std.specs.Prelude.{IfSome, IsSome, MatchOption}
+use Rattle.std.proofs.lemmas.Bool.{false≢true}
 use Rattle.lama_model.specs.Opening.{empty_opening}
 use Rattle.lama_model.specs.Script.{End}
 use Rattle.lama_model.specs.Text.{text}
+use Rattle.lama_model.specs.declared.calls.Entry.{Entry}
 use Rattle.lama_model.specs.Lines.{usage_line}
 use Rattle.llama_main.specs.declared.status.Status.{Status}
 use Rattle.llama_main.specs.declared.status.Status.TheVariants as statuses
 use Rattle.llama_main.specs.Stops.{IsFront, Appends, Gave, HasEnded}
-use Rattle.llama_main.specs.Ending.{end_of, IsCut, IsOutside, Exchanges, IsText, IsSettled}
-use Rattle.llama_main.specs.Hearing.{Ran, Fits}
+use Rattle.llama_main.specs.Ending.{end_of, HasBook, IsCut, IsOutside, Exchanges, IsText, IsSettled}
+use Rattle.lama_book.specs.Book.{Book}
+use Rattle.lama_book.specs.Relation.{IsBookOf}
+use Rattle.llama_main.specs.Outlook.{journal_of}
+use Rattle.llama_main.specs.Hearing.{Ran, RanWith, Fits}
 use Rattle.llama_main.specs.Words.{text_under, AreRefused}
 use Rattle.llama_main.proofs.Bytes.{Gave-none}
 
@@ -36,32 +41,32 @@ outside_end statuses.WriteFault P h = tt
 outside_end statuses.NoMemory P h = tt
 outside_end statuses.TooManyLines P h = absurd h
 
-fits_text : (l l' w w' : Option (List ℕ)) (status : Status) (given taken : List ℕ) → Gave l l' given → Appends w w' taken → Fits l l' given taken status → IfSome (end_of status) (λ e. Exchanges l l' w w' (λ given taken. IsText given taken e))
-fits_text l l' w w' statuses.Done given taken gave took fits = (given, taken, gave, took, fits.1)
-fits_text l l' w w' statuses.Usage given taken gave took fits = tt
-fits_text l l' w w' (statuses.BadLine n) given taken gave took fits = (given, taken, gave, took, fits.1)
-fits_text l l' w w' statuses.ReadFault given taken gave took fits = tt
-fits_text l l' w w' statuses.WriteFault given taken gave took fits = tt
-fits_text l l' w w' statuses.NoMemory given taken gave took fits = tt
-fits_text l l' w w' statuses.TooManyLines given taken gave took fits = (given, taken, gave, took, fits.1)
+fits_text : (l l' w w' : Option (List ℕ)) (journal : List Entry) (status : Status) (given taken : List ℕ) → Gave l l' given → Appends w w' taken → Fits l l' given taken journal status → IfSome (end_of status) (λ e. Exchanges l l' w w' (λ given taken. IsText given taken e))
+fits_text l l' w w' journal statuses.Done given taken gave took fits = (given, taken, gave, took, fits.1)
+fits_text l l' w w' journal statuses.Usage given taken gave took fits = tt
+fits_text l l' w w' journal (statuses.BadLine n) given taken gave took fits = (given, taken, gave, took, fits.1)
+fits_text l l' w w' journal statuses.ReadFault given taken gave took fits = tt
+fits_text l l' w w' journal statuses.WriteFault given taken gave took fits = tt
+fits_text l l' w w' journal statuses.NoMemory given taken gave took fits = tt
+fits_text l l' w w' journal statuses.TooManyLines given taken gave took fits = (given, taken, gave, took, fits.1)
 
-fits_settled : (l l' w w' : Option (List ℕ)) (status : Status) (given taken : List ℕ) → Gave l l' given → Appends w w' taken → Fits l l' given taken status → IfSome (end_of status) (λ e. Exchanges l l' w w' (λ given taken. IsSettled l l' given))
-fits_settled l l' w w' statuses.Done given taken gave took fits = (given, taken, gave, took, inl fits.0)
-fits_settled l l' w w' statuses.Usage given taken gave took fits = tt
-fits_settled l l' w w' (statuses.BadLine n) given taken gave took fits = (given, taken, gave, took, fits.0)
-fits_settled l l' w w' statuses.ReadFault given taken gave took fits = tt
-fits_settled l l' w w' statuses.WriteFault given taken gave took fits = tt
-fits_settled l l' w w' statuses.NoMemory given taken gave took fits = tt
-fits_settled l l' w w' statuses.TooManyLines given taken gave took fits = (given, taken, gave, took, fits.0)
+fits_settled : (l l' w w' : Option (List ℕ)) (journal : List Entry) (status : Status) (given taken : List ℕ) → Gave l l' given → Appends w w' taken → Fits l l' given taken journal status → IfSome (end_of status) (λ e. Exchanges l l' w w' (λ given taken. IsSettled l l' given))
+fits_settled l l' w w' journal statuses.Done given taken gave took fits = (given, taken, gave, took, inl fits.0)
+fits_settled l l' w w' journal statuses.Usage given taken gave took fits = tt
+fits_settled l l' w w' journal (statuses.BadLine n) given taken gave took fits = (given, taken, gave, took, fits.0)
+fits_settled l l' w w' journal statuses.ReadFault given taken gave took fits = tt
+fits_settled l l' w w' journal statuses.WriteFault given taken gave took fits = tt
+fits_settled l l' w w' journal statuses.NoMemory given taken gave took fits = tt
+fits_settled l l' w w' journal statuses.TooManyLines given taken gave took fits = (given, taken, gave, took, fits.0)
 
-fits_cut : (l l' w w' : Option (List ℕ)) (status : Status) (given taken : List ℕ) → Gave l l' given → Appends w w' taken → Fits l l' given taken status → IsCut status → Exchanges l l' w w' (λ given taken. IsFront taken (text empty_opening given))
-fits_cut l l' w w' statuses.Done given taken gave took fits cut = absurd cut
-fits_cut l l' w w' statuses.Usage given taken gave took fits cut = absurd cut
-fits_cut l l' w w' (statuses.BadLine n) given taken gave took fits cut = absurd cut
-fits_cut l l' w w' statuses.ReadFault given taken gave took fits cut = (given, taken, gave, took, fits)
-fits_cut l l' w w' statuses.WriteFault given taken gave took fits cut = (given, taken, gave, took, fits)
-fits_cut l l' w w' statuses.NoMemory given taken gave took fits cut = (given, taken, gave, took, fits)
-fits_cut l l' w w' statuses.TooManyLines given taken gave took fits cut = absurd cut
+fits_cut : (l l' w w' : Option (List ℕ)) (journal : List Entry) (status : Status) (given taken : List ℕ) → Gave l l' given → Appends w w' taken → Fits l l' given taken journal status → IsCut status → Exchanges l l' w w' (λ given taken. IsFront taken (text empty_opening given))
+fits_cut l l' w w' journal statuses.Done given taken gave took fits cut = absurd cut
+fits_cut l l' w w' journal statuses.Usage given taken gave took fits cut = absurd cut
+fits_cut l l' w w' journal (statuses.BadLine n) given taken gave took fits cut = absurd cut
+fits_cut l l' w w' journal statuses.ReadFault given taken gave took fits cut = (given, taken, gave, took, fits)
+fits_cut l l' w w' journal statuses.WriteFault given taken gave took fits cut = (given, taken, gave, took, fits)
+fits_cut l l' w w' journal statuses.NoMemory given taken gave took fits cut = (given, taken, gave, took, fits)
+fits_cut l l' w w' journal statuses.TooManyLines given taken gave took fits cut = absurd cut
 
 -- what is known of a run: the script was run, or the words were refused and nothing was read
 abbrev RunsInside : {A : Type 0} → List A → Option (List ℕ) → Option (List ℕ) → Option (List ℕ) → Option (List ℕ) → Status → Type 0
@@ -74,14 +79,14 @@ pub text_clause : {A : Type 0} (words : List A) (l l' w w' : Option (List ℕ)) 
 text_clause words l l' w w' status inside outside = by (words_cases words)
   where
     by : (words ≡ []) ⊎ (words ≡ [] → ⊥) → IfSome (end_of status) (λ e. Exchanges l l' w w' (λ given taken. IsText given taken e))
-    by (inl h) = let ran = inside h in fits_text l l' w w' status ran.given ran.taken ran.gave ran.took ran.fits
+    by (inl h) = let ran = (inside h).run in fits_text l l' w w' (inside h).journal status ran.given ran.taken ran.gave ran.took ran.fits
     by (inr h) = outside_end status (λ e. Exchanges l l' w w' (λ given taken. IsText given taken e)) (outside_status w w' status (outside h).0)
 
 pub settled_clause : {A : Type 0} (words : List A) (l l' w w' : Option (List ℕ)) (status : Status) → RunsInside words l l' w w' status → RefusesOutside words l l' w w' status → IfSome (end_of status) (λ e. Exchanges l l' w w' (λ given taken. IsSettled l l' given))
 settled_clause words l l' w w' status inside outside = by (words_cases words)
   where
     by : (words ≡ []) ⊎ (words ≡ [] → ⊥) → IfSome (end_of status) (λ e. Exchanges l l' w w' (λ given taken. IsSettled l l' given))
-    by (inl h) = let ran = inside h in fits_settled l l' w w' status ran.given ran.taken ran.gave ran.took ran.fits
+    by (inl h) = let ran = (inside h).run in fits_settled l l' w w' (inside h).journal status ran.given ran.taken ran.gave ran.took ran.fits
     by (inr h) = outside_end status (λ e. Exchanges l l' w w' (λ given taken. IsSettled l l' given)) (outside_status w w' status (outside h).0)
 
 -- at Done the source has ended
@@ -89,7 +94,7 @@ pub ended_clause : {A : Type 0} (words : List A) (l l' w w' : Option (List ℕ))
 ended_clause words l l' w w' status inside outside done = by (words_cases words)
   where
     by : (words ≡ []) ⊎ (words ≡ [] → ⊥) → HasEnded l l'
-    by (inl h) = let ran = inside h in (subst (Fits l l' ran.given ran.taken) done ran.fits).0
+    by (inl h) = let ran = (inside h).run in (subst (Fits l l' ran.given ran.taken (inside h).journal) done ran.fits).0
     by (inr h) = absurd (subst IsOutside done (outside_status w w' status (outside h).0))
 
 cut_outside : {A : Type 0} (words : List A) (l l' w w' : Option (List ℕ)) (status : Status) → (words ≡ [] → ⊥) → AreRefused w w' status → l' ≡ l → IsCut status → Exchanges l l' w w' (λ given taken. IsFront taken (text_under words given))
@@ -102,8 +107,8 @@ cut_clause words l l' w w' status inside outside cut = by (words_cases words)
   where
     by : (words ≡ []) ⊎ (words ≡ [] → ⊥) → Exchanges l l' w w' (λ given taken. IsFront taken (text_under words given))
     by (inl h) =
-        let ran = inside h in
-        subst (λ ws. Exchanges l l' w w' (λ given taken. IsFront taken (text_under ws given))) (sym h) (fits_cut l l' w w' status ran.given ran.taken ran.gave ran.took ran.fits cut)
+        let ran = (inside h).run in
+        subst (λ ws. Exchanges l l' w w' (λ given taken. IsFront taken (text_under ws given))) (sym h) (fits_cut l l' w w' (inside h).journal status ran.given ran.taken ran.gave ran.took ran.fits cut)
     by (inr h) = let out = outside h in cut_outside words l l' w w' status h out.0 out.1 cut
 
 refused_usage : (w w' : Option (List ℕ)) (status : Status) → AreRefused w w' status → status ≡ statuses.Usage → Appends w w' usage_line
@@ -118,5 +123,34 @@ pub usage_clause : {A : Type 0} (words : List A) (l l' w w' : Option (List ℕ))
 usage_clause words l l' w w' status inside outside is = by (words_cases words)
   where
     by : (words ≡ []) ⊎ (words ≡ [] → ⊥) → (words ≡ [] → ⊥) × Appends w w' usage_line
-    by (inl h) = let ran = inside h in absurd (subst (Fits l l' ran.given ran.taken) is ran.fits)
+    by (inl h) = let ran = (inside h).run in absurd (subst (Fits l l' ran.given ran.taken (inside h).journal) is ran.fits)
     by (inr h) = (h, refused_usage w w' status (outside h).0 is)
+
+fits_journal : (l l' w w' : Option (List ℕ)) (journal : List Entry) (status : Status) (given taken : List ℕ) → Gave l l' given → Appends w w' taken → Fits l l' given taken journal status → IsSome (end_of status) → Exchanges l l' w w' (λ given taken. journal ≡ journal_of empty_opening given)
+fits_journal l l' w w' journal statuses.Done given taken gave took fits some = (given, taken, gave, took, fits.2)
+fits_journal l l' w w' journal statuses.Usage given taken gave took fits some = absurd (false≢true some)
+fits_journal l l' w w' journal (statuses.BadLine n) given taken gave took fits some = (given, taken, gave, took, fits.2)
+fits_journal l l' w w' journal statuses.ReadFault given taken gave took fits some = absurd (false≢true some)
+fits_journal l l' w w' journal statuses.WriteFault given taken gave took fits some = absurd (false≢true some)
+fits_journal l l' w w' journal statuses.NoMemory given taken gave took fits some = absurd (false≢true some)
+fits_journal l l' w w' journal statuses.TooManyLines given taken gave took fits some = (given, taken, gave, took, fits.2)
+
+-- the journal of a run whose status names the script's end is that of what was read
+pub ran_journal : (l l' w w' : Option (List ℕ)) (journal : List Entry) (status : Status) → RanWith l l' w w' journal status → IsSome (end_of status) → Exchanges l l' w w' (λ given taken. journal ≡ journal_of empty_opening given)
+ran_journal l l' w w' journal status ran some = fits_journal l l' w w' journal status ran.given ran.taken ran.gave ran.took ran.fits some
+
+-- refused words leave no book
+pub refused_end : (w w' : Option (List ℕ)) (status : Status) → AreRefused w w' status → end_of status ≡ None
+refused_end w w' status (inl h) = ap end_of h.0
+refused_end w w' status (inr h) = by h.3
+  where
+    by : (status ≡ statuses.WriteFault) ⊎ (status ≡ statuses.NoMemory) → end_of status ≡ None
+    by (inl is) = ap end_of is
+    by (inr is) = ap end_of is
+
+-- the book that a session leaves is that of its run
+pub has_book : (l l' w w' : Option (List ℕ)) (journal : List Entry) (status : Status) (book : Option Book) → RanWith l l' w w' journal status → MatchOption book (end_of status ≡ None) (λ b. IsSome (end_of status) × (b.journal ≡ journal) × IsBookOf empty_opening b) → HasBook l l' w w' status book
+has_book l l' w w' journal status None ran h = h
+has_book l l' w w' journal status (Some b) ran h =
+    let found = ran_journal l l' w w' journal status ran h.0 in
+    (h.0, h.2, (found.0, found.1, found.2, found.3, h.1 ∙ found.4))

@@ -1,5 +1,5 @@
 -- How a run ends: its status, its last line, and what both say of the script.
-use Rattle.std.specs.Prelude.{◌≡◌, ◌⊎◌, ℕ, List, [], ◌++◌, Option, Some, None, ⊤}
+use Rattle.std.specs.Prelude.{◌≡◌, ◌⊎◌, ℕ, List, [], ◌++◌, Option, Some, None, IsSome, ⊤}
 use Rattle.lama_model.specs.Opening.{empty_opening}
 use Rattle.lama_model.specs.Script.{End, script}
 use Rattle.lama_model.specs.Script.End.{Whole, BadAt, TooMany}
@@ -7,7 +7,9 @@ use Rattle.lama_model.specs.Lines.{last_line, usage_line}
 use Rattle.lama_model.specs.Text.{text}
 use Rattle.llama_main.specs.declared.status.Status.{Status}
 use Rattle.llama_main.specs.declared.status.Status.TheVariants.{Done, Usage, BadLine, ReadFault, WriteFault, NoMemory, TooManyLines}
-use Rattle.llama_main.specs.Outlook.{outcome}
+use Rattle.lama_book.specs.Book.{Book}
+use Rattle.lama_book.specs.Relation.{IsBookOf}
+use Rattle.llama_main.specs.Outlook.{outcome, journal_of}
 use Rattle.llama_main.specs.Stops.{Appends, Gave, HasEnded}
 
 -- the exit status of the program
@@ -72,3 +74,9 @@ pub record IsText (given taken : List ℕ) (end : End) : Type 0 where
 -- whatever comes after what was read, the text is the same, unless the source was read to its end
 abbrev pub IsSettled : Option (List ℕ) → Option (List ℕ) → List ℕ → Type 0
 IsSettled left left' given = HasEnded left left' ⊎ ((more : List ℕ) → outcome empty_opening (given ++ more) ≡ outcome empty_opening given)
+
+-- the book of a run is there exactly where the status names the script's end: it stands for the empty opening and the journal of what was read
+abbrev pub HasBook : Option (List ℕ) → Option (List ℕ) → Option (List ℕ) → Option (List ℕ) → Status → Option Book → Type 0
+HasBook left left' written written' status None = end_of status ≡ None
+HasBook left left' written written' status (Some b) =
+    IsSome (end_of status) × IsBookOf empty_opening b × Exchanges left left' written written' (λ given taken. b.journal ≡ journal_of empty_opening given)

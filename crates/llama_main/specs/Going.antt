@@ -1,5 +1,5 @@
 -- A run that goes on: what it is going to have written.
-use Rattle.std.specs.Prelude.{◌≡◌, ℕ, ◌+◌, ◌≤◌, List}
+use Rattle.std.specs.Prelude.{◌≡◌, ℕ, ◌+◌, ◌≤◌, List, length}
 use Rattle.lama_model.specs.Script.End.{Whole}
 use Rattle.llama_main.specs.Outlook.{Outcome, behind, outlook_at}
 use Rattle.lama_model.specs.declared.commands.Command.{Command}
@@ -14,7 +14,7 @@ outlook i rest = behind i.out.items (outlook_at i.store (i.parser.taken + 1) res
 -- no line was bad, and each call came from a line
 pub record IsGoing (i : Interpreter) : Type 0 where
   pub whole : i.parser.end ≡ Whole
-  pub calls : i.store.calls ≤ i.parser.taken
+  pub calls : length i.store.journal ≤ i.parser.taken
 
 -- the command of an item
 abbrev pub command_in : Item → Command

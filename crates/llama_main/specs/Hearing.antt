@@ -1,15 +1,16 @@
 -- What a conversation over the source and the sink leaves to be written.
-use Rattle.std.specs.Prelude.{◌≡◌, ◌⊎◌, ℕ, List, ◌++◌, Option, Result, Ok, Err}
+use Rattle.std.specs.Prelude.{◌≡◌, ◌⊎◌, ℕ, List, ◌++◌, length, Option, Result, Ok, Err}
 use Rattle.lama_model.specs.Opening.{empty_opening}
 use Rattle.lama_model.specs.Script.End.{Whole, BadAt, TooMany}
 use Rattle.lama_model.specs.Text.{text}
+use Rattle.lama_model.specs.declared.calls.Entry.{Entry}
 use Rattle.lama_model.specs.Lines.{last_line}
 use Rattle.llama_main.specs.declared.stop.Stop.{Stop}
 use Rattle.llama_main.specs.declared.stop.Stop.TheVariants.{BadLine, TooManyLines, ReadFault, WriteFault, NoMemory}
 use Rattle.llama_main.specs.declared.status.Status.{Status}
 use Rattle.llama_main.specs.declared.status.Status.TheVariants as statuses
 use Rattle.llama_main.specs.declared.session.Session.{Session}
-use Rattle.llama_main.specs.Outlook.{Outcome}
+use Rattle.llama_main.specs.Outlook.{Outcome, journal_of}
 use Rattle.llama_main.specs.Stops.{Gave, Appends, HasEnded, StopsAt, IsFront}
 use Rattle.llama_main.specs.Ending.{IsText, IsSettled}
 use Rattle.llama_main.specs.Talk.{foreseen, Wrote}
@@ -21,21 +22,21 @@ pub record Reached (left left' written written' : Option (List ℕ)) (old new : 
   pub wrote : Wrote written written' old new given
 
 -- the whole text is what was said, what is gathered, and the last line
-abbrev pub whole_of : ℕ → List ℕ → Outcome
-whole_of calls said = record { text = said ++ last_line calls Whole; end = Whole }
+abbrev pub whole_of : List Entry → List ℕ → Outcome
+whole_of journal said = record { text = said ++ last_line (length journal) Whole; end = Whole; journal = journal }
 
 -- what an answer says of the script
-abbrev pub Says : Option (List ℕ) → Option (List ℕ) → Session → List ℕ → List ℕ → ℕ → Result (Unit {0}) Stop → Type 0
-Says left left' old given said calls (Ok done) = HasEnded left left' × (foreseen old given ≡ whole_of calls said)
-Says left left' old given said calls (Err stop) = (HasEnded left left' × StopsAt stop said (foreseen old given)) ⊎ ((more : List ℕ) → StopsAt stop said (foreseen old (given ++ more)))
+abbrev pub Says : Option (List ℕ) → Option (List ℕ) → Session → List ℕ → List ℕ → List Entry → Result (Unit {0}) Stop → Type 0
+Says left left' old given said journal (Ok done) = HasEnded left left' × (foreseen old given ≡ whole_of journal said)
+Says left left' old given said journal (Err stop) = (HasEnded left left' × StopsAt stop said journal (foreseen old given)) ⊎ ((more : List ℕ) → StopsAt stop said journal (foreseen old (given ++ more)))
 
 -- what was read and written before an answer, with what is gathered
-pub record Heard (left left' written written' : Option (List ℕ)) (old : Session) (out : List ℕ) (calls : ℕ) (answer : Result (Unit {0}) Stop) : Type 0 where
+pub record Heard (left left' written written' : Option (List ℕ)) (old : Session) (out : List ℕ) (journal : List Entry) (answer : Result (Unit {0}) Stop) : Type 0 where
   pub given : List ℕ
   pub said : List ℕ
   pub gave : Gave left left' given
   pub appended : Appends written written' said
-  pub says : Says left left' old given (said ++ out) calls answer
+  pub says : Says left left' old given (said ++ out) journal answer
 
 -- the status of an answer
 abbrev pub status_of : Result (Unit {0}) Stop → Status
@@ -47,19 +48,24 @@ status_of (Err WriteFault) = statuses.WriteFault
 status_of (Err NoMemory) = statuses.NoMemory
 
 -- what a status says of what was read and written
-abbrev pub Fits : Option (List ℕ) → Option (List ℕ) → List ℕ → List ℕ → Status → Type 0
-Fits left left' given taken statuses.Done = HasEnded left left' × IsText given taken Whole
-Fits left left' given taken (statuses.BadLine n) = IsSettled left left' given × IsText given taken (BadAt n)
-Fits left left' given taken statuses.TooManyLines = IsSettled left left' given × IsText given taken TooMany
-Fits left left' given taken statuses.ReadFault = IsFront taken (text empty_opening given)
-Fits left left' given taken statuses.WriteFault = IsFront taken (text empty_opening given)
-Fits left left' given taken statuses.NoMemory = IsFront taken (text empty_opening given)
-Fits left left' given taken statuses.Usage = ⊥
+abbrev pub Fits : Option (List ℕ) → Option (List ℕ) → List ℕ → List ℕ → List Entry → Status → Type 0
+Fits left left' given taken journal statuses.Done = HasEnded left left' × IsText given taken Whole × (journal ≡ journal_of empty_opening given)
+Fits left left' given taken journal (statuses.BadLine n) = IsSettled left left' given × IsText given taken (BadAt n) × (journal ≡ journal_of empty_opening given)
+Fits left left' given taken journal statuses.TooManyLines = IsSettled left left' given × IsText given taken TooMany × (journal ≡ journal_of empty_opening given)
+Fits left left' given taken journal statuses.ReadFault = IsFront taken (text empty_opening given)
+Fits left left' given taken journal statuses.WriteFault = IsFront taken (text empty_opening given)
+Fits left left' given taken journal statuses.NoMemory = IsFront taken (text empty_opening given)
+Fits left left' given taken journal statuses.Usage = ⊥
 
--- a run of a script with its status
-pub record Ran (left left' written written' : Option (List ℕ)) (status : Status) : Type 0 where
+-- a run of a script with its journal and its status
+pub record RanWith (left left' written written' : Option (List ℕ)) (journal : List Entry) (status : Status) : Type 0 where
   pub given : List ℕ
   pub taken : List ℕ
   pub gave : Gave left left' given
   pub took : Appends written written' taken
-  pub fits : Fits left left' given taken status
+  pub fits : Fits left left' given taken journal status
+
+-- a run of a script with its status
+pub record Ran (left left' written written' : Option (List ℕ)) (status : Status) : Type 0 where
+  pub journal : List Entry
+  pub run : RanWith left left' written written' journal status

@@ -3,6 +3,7 @@ use Rattle.std.specs.Prelude.{◌≡◌, ℕ, false, List, [], ◌++◌, All, Op
 use Rattle.lama_model.specs.Script.{End, is_line_feed}
 use Rattle.lama_model.specs.Script.End.{BadAt, TooMany}
 use Rattle.lama_model.specs.Lines.{last_line}
+use Rattle.lama_model.specs.declared.calls.Entry.{Entry}
 use Rattle.llama_main.specs.Outlook.{Outcome}
 use Rattle.llama_main.specs.declared.stop.Stop.{Stop}
 use Rattle.llama_main.specs.declared.stop.Stop.TheVariants.{BadLine, TooManyLines, ReadFault, WriteFault, NoMemory}
@@ -23,17 +24,17 @@ Gave before now piece = IfSome before (λ left. (rest : List ℕ) × (now ≡ So
 abbrev pub HasEnded : Option (List ℕ) → Option (List ℕ) → Type 0
 HasEnded before now = IfSome before (λ left. now ≡ Some [])
 
--- the last line says that the script ends so
-abbrev pub last_of : List ℕ → End → Outcome
-last_of said end = record { text = said ++ last_line 0 end; end = end }
+-- the last line says that the script ends so, after these calls
+abbrev pub last_of : List ℕ → List Entry → End → Outcome
+last_of said journal end = record { text = said ++ last_line 0 end; end = end; journal = journal }
 
 -- where a run stops so, what was said is all but the last line, or a front of the text
-abbrev pub StopsAt : Stop → List ℕ → Outcome → Type 0
-StopsAt (BadLine n) said whole = whole ≡ last_of said (BadAt n)
-StopsAt TooManyLines said whole = whole ≡ last_of said TooMany
-StopsAt ReadFault said whole = IsFront said whole.text
-StopsAt WriteFault said whole = IsFront said whole.text
-StopsAt NoMemory said whole = IsFront said whole.text
+abbrev pub StopsAt : Stop → List ℕ → List Entry → Outcome → Type 0
+StopsAt (BadLine n) said journal whole = whole ≡ last_of said journal (BadAt n)
+StopsAt TooManyLines said journal whole = whole ≡ last_of said journal TooMany
+StopsAt ReadFault said journal whole = IsFront said whole.text
+StopsAt WriteFault said journal whole = IsFront said whole.text
+StopsAt NoMemory said journal whole = IsFront said whole.text
 
 -- a stop that comes from the script or for want of memory, and from no fault outside
 abbrev pub IsOfScript : Stop → Type 0

@@ -1,5 +1,5 @@
 -- What the store of a script holds.
-use Rattle.std.specs.Prelude.{◌≡◌, ℕ, ◌+◌, List, length}
+use Rattle.std.specs.Prelude.{◌≡◌, List, [], ◌∷◌, ◌++◌}
 use Rattle.lama_model.specs.Row.{AreRowsOf}
 use Rattle.lama_model.specs.Opening.{empty_opening}
 use Rattle.lama_model.specs.Journal.{Standing, standing, after, graph_of}
@@ -9,18 +9,18 @@ use Rattle.lama_model.specs.declared.answers.Reply.{Reply}
 use Rattle.lama_model.specs.declared.answers.Reply.TheVariants.{Snapshot}
 use Rattle.lama_snapshot.specs.Snap.{Snap}
 
--- what the calls so far leave, and how many there were
+-- the calls so far, and what they leave
 pub record Held : Type 0 where
+  pub journal : List Entry
   pub standing : Standing
-  pub calls : ℕ
 
 -- what the calls of this journal leave
 abbrev pub held_by : List Entry → Held
-held_by journal = record { standing = standing empty_opening journal; calls = length journal }
+held_by journal = record { journal = journal; standing = standing empty_opening journal }
 
 -- one call more
 abbrev pub called : Held → Call → Held
-called h call = record { standing = after empty_opening h.standing call; calls = h.calls + 1 }
+called h call = record { journal = h.journal ++ record { caller = 0; call = call } ∷ []; standing = after empty_opening h.standing call }
 
 -- the reply hands out the snapshot, which is that of its number
 pub record IsFound (s : Standing) (r : Reply) (x : Snap) : Type 0 where

@@ -1,6 +1,7 @@
 -- A run between two pieces of its script: what it is going to have written.
 use Rattle.std.specs.Prelude.{◌≡◌, ℕ, ◌-◌, ◌*◌, ◌≤◌, List, ◌++◌, length, Option}
 use Rattle.lama_model.specs.Script.{lines}
+use Rattle.lama_model.specs.declared.calls.Entry.{Entry}
 use Rattle.llama_main.specs.Outlook.{Outcome, behind}
 use Rattle.llama_main.specs.Stops.{Appends, StopsAt, HasNoFeed}
 use Rattle.llama_main.specs.Going.{outlook, IsGoing}
@@ -29,7 +30,7 @@ pub record Wrote (before now : Option (List ℕ)) (old new : Session) (piece : L
   pub kept : (more : List ℕ) → foreseen old (piece ++ more) ≡ behind said (foreseen new more)
 
 -- something was written, and whatever comes after the piece, the run stops so with that gathered
-pub record Stopped (before now : Option (List ℕ)) (old : Session) (piece out : List ℕ) (stop : Stop) : Type 0 where
+pub record Stopped (before now : Option (List ℕ)) (old : Session) (piece out : List ℕ) (journal : List Entry) (stop : Stop) : Type 0 where
   pub said : List ℕ
   pub appended : Appends before now said
-  pub stops : (more : List ℕ) → StopsAt stop (said ++ out) (foreseen old (piece ++ more))
+  pub stops : (more : List ℕ) → StopsAt stop (said ++ out) journal (foreseen old (piece ++ more))

@@ -52,7 +52,7 @@ impl Interpreter {
 
     /// How many calls were made.
     pub fn calls(&self) -> u32
-        ensures { result ≡ self.now.store.calls }
+        ensures { result ≡ length self.now.store.journal }
     {
         self.store.calls()
     }
@@ -71,7 +71,7 @@ impl Interpreter {
         ensures going { OnOk result (IsGoing self.new) }
         ensures next { OnOk result (self.new.parser.taken ≡ self.old.parser.taken + 1) }
         ensures within { OnOk result (self.new.parser.taken ≤ 2097152) }
-        ensures err { IfErr result (λ stop. (rest : List (List ℕ)) → StopsAt stop self.new.out.items (outlook self.old (line.now ∷ rest))) }
+        ensures err { IfErr result (λ stop. (rest : List (List ℕ)) → StopsAt stop self.new.out.items self.new.store.journal (outlook self.old (line.now ∷ rest))) }
         ensures cause { IfErr result IsOfScript }
     {
         match self.parser.line(line) {
@@ -88,7 +88,7 @@ impl Interpreter {
 
     /// Does an item and gathers what it prints.
     fn run(&mut self, item: Item) -> Result<(), AllocError>
-        requires room { self.old.store.calls < 4194304 }
+        requires room { length self.old.store.journal < 4194304 }
         requires plain { IsPlain (command_in item) }
         ensures parser { self.new.parser ≡ self.old.parser }
         ensures held { OnOk result (self.new.store ≡ held_after self.old.store (command_in item)) }
@@ -102,7 +102,7 @@ impl Interpreter {
 
     /// Makes the command's call and gathers what it prints.
     fn obey(&mut self, command: &Command) -> Result<(), AllocError>
-        requires room { self.old.store.calls < 4194304 }
+        requires room { length self.old.store.journal < 4194304 }
         requires plain { IsPlain command.now }
         ensures parser { self.new.parser ≡ self.old.parser }
         ensures held { OnOk result (self.new.store ≡ held_after self.old.store command.now) }

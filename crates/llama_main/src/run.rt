@@ -1,10 +1,12 @@
 //! A run of a script, from its bytes to the printed bytes.
 
-ghost use Rattle.std.specs.Prelude.{◌≡◌, ◌<◌, ◌≤◌, ◌^◌, ◌⊎◌, [], ◌++◌, ℕ, List, OnOk, OnErr, Err, length, decimal, codes};
+ghost use Rattle.std.specs.Prelude.{◌≡◌, ◌<◌, ◌≤◌, ◌^◌, ◌⊎◌, [], ◌++◌, ℕ, List, OnOk, OnErr, Err, None, IsSome, MatchOption, length, decimal, codes};
 ghost use Rattle.lama_base.specs.Faults.{Rose};
 ghost use Rattle.lama_model.specs.Lines.{usage_line};
 ghost use Rattle.llama_main.specs.Stops.{IsFront, Appends};
-ghost use Rattle.llama_main.specs.Ending.{last_text};
+ghost use Rattle.llama_main.specs.Ending.{last_text, end_of, HasBook};
+ghost use Rattle.lama_model.specs.Opening.{empty_opening};
+ghost use Rattle.lama_book.specs.Relation.{IsBookOf};
 ghost use Rattle.llama_main.specs.Hearing.{Heard, status_of, Ran};
 ghost use Rattle.llama_main.specs.Talk.{IsTalking};
 
@@ -14,6 +16,7 @@ use crate::stop::Stop;
 use crate::writing::flush;
 use itoa::Buffer;
 use lama_base::{Sink, Source};
+use lama_book::Book;
 use std::alloc::{AllocError, Global};
 
 /// So many bytes are read at a time.
@@ -28,7 +31,7 @@ fn converse<S: Source, K: Sink>(
 ) -> Result<(), Stop>
     requires talking { IsTalking session.old }
     requires room { 0 < length buf.old }
-    ensures heard { Heard (S.left source.old) (S.left source.new) (K.written sink.old) (K.written sink.new) session.old session.new.interpreter.out.items session.new.interpreter.store.calls result }
+    ensures heard { Heard (S.left source.old) (S.left source.new) (K.written sink.old) (K.written sink.new) session.old session.new.interpreter.out.items session.new.interpreter.store.journal result }
     ensures read_cause { result ≡ Err Stop.ReadFault → Rose (S.faults source.old) (S.faults source.new) }
     ensures write_cause { result ≡ Err Stop.WriteFault → Rose (K.faults sink.old) (K.faults sink.new) }
     ensures read_steady { S.faults source.old ≤ S.faults source.new }
@@ -133,7 +136,7 @@ fn hear<S: Source, K: Sink>(
 ) -> Result<(), Stop>
     requires talking { IsTalking session.old }
     requires none { session.old.interpreter.out.items ≡ [] }
-    ensures heard { Heard (S.left source.old) (S.left source.new) (K.written sink.old) (K.written sink.new) session.old session.new.interpreter.out.items session.new.interpreter.store.calls result }
+    ensures heard { Heard (S.left source.old) (S.left source.new) (K.written sink.old) (K.written sink.new) session.old session.new.interpreter.out.items session.new.interpreter.store.journal result }
     ensures read_cause { result ≡ Err Stop.ReadFault → Rose (S.faults source.old) (S.faults source.new) }
     ensures write_cause { result ≡ Err Stop.WriteFault → Rose (K.faults sink.old) (K.faults sink.new) }
     ensures write_steady { K.faults sink.old ≤ K.faults sink.new }
@@ -145,19 +148,45 @@ fn hear<S: Source, K: Sink>(
     }
 }
 
+/// How a run of a script ended, with its book.
+#[derive(Drop)]
+pub struct Ended {
+    pub status: Status,
+    pub book: Option<Book>,
+}
+
 /// Runs the script of the source.
-pub fn run_script<S: Source, K: Sink>(alloc: Global, source: &mut S, sink: &mut K) -> Status
-    ensures ran { Ran (S.left source.old) (S.left source.new) (K.written sink.old) (K.written sink.new) result }
-    ensures read_cause { result ≡ Status.ReadFault → Rose (S.faults source.old) (S.faults source.new) }
-    ensures write_cause { result ≡ Status.WriteFault → Rose (K.faults sink.old) (K.faults sink.new) }
+pub fn run_script<S: Source, K: Sink>(alloc: Global, source: &mut S, sink: &mut K) -> Ended
+    ensures ran { Ran (S.left source.old) (S.left source.new) (K.written sink.old) (K.written sink.new) result.status }
+    ensures book { HasBook (S.left source.old) (S.left source.new) (K.written sink.old) (K.written sink.new) result.status result.book }
+    ensures read_cause { result.status ≡ Status.ReadFault → Rose (S.faults source.old) (S.faults source.new) }
+    ensures write_cause { result.status ≡ Status.WriteFault → Rose (K.faults sink.old) (K.faults sink.new) }
 {
     let Ok(mut session) = Session::new(alloc) else {
-        return Status::NoMemory;
+        return Ended {
+            status: Status::NoMemory,
+            book: None,
+        };
     };
     let answer = hear(alloc, source, sink, &mut session);
     let calls = session.interpreter.calls();
     let status = status_after(answer);
-    conclude(sink, &mut session.interpreter.out, calls, status)
+    let status = conclude(sink, &mut session.interpreter.out, calls, status);
+    Ended {
+        status,
+        book: book_after(session, status),
+    }
+}
+
+/// The book of a session that ended so, where the status names the script's end.
+fn book_after(session: Session, status: Status) -> Option<Book>
+    ensures { MatchOption result (end_of status ≡ None) (λ b. IsSome (end_of status) × (b.journal ≡ session.interpreter.store.journal) × IsBookOf empty_opening b) }
+{
+    if status.names_end() {
+        Some(session.into_book())
+    } else {
+        None
+    }
 }
 
 /// Says that the words are not in the grammar.

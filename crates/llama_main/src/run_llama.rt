@@ -4,11 +4,11 @@ ghost use Rattle.std.specs.Prelude.{◌≡◌, [], IfSome};
 ghost use Rattle.lama_base.specs.Faults.{Rose};
 ghost use Rattle.lama_model.specs.Lines.{usage_line};
 ghost use Rattle.llama_main.specs.Stops.{IsFront, Appends, HasEnded};
-ghost use Rattle.llama_main.specs.Ending.{end_of, IsCut, IsOutside, Exchanges, IsText, IsSettled};
+ghost use Rattle.llama_main.specs.Ending.{end_of, IsCut, IsOutside, Exchanges, HasBook, IsText, IsSettled};
 ghost use Rattle.llama_main.specs.Hearing.{Ran};
 ghost use Rattle.llama_main.specs.Words.{AreInGrammar, text_under, AreRefused};
 
-use crate::run::{refuse_words, run_script};
+use crate::run::{Ended, refuse_words, run_script};
 use crate::status::{RunEnd, Status};
 use lama_base::{Gate, Sink, Source};
 use lama_pages::Steps;
@@ -38,6 +38,8 @@ pub fn run_lines<R, S: Source, K: Sink, L: Ledger>(
     // Whatever might follow what was read gives the same text, unless the source was read to its end.
     ensures settled { IfSome (end_of result.status) (λ end. Exchanges (S.left source.old) (S.left source.new) (K.written sink.old) (K.written sink.new) (λ given taken. IsSettled (S.left source.old) (S.left source.new) given)) }
     ensures end_of_source { result.status ≡ Status.Done → HasEnded (S.left source.old) (S.left source.new) }
+    // The book stands for the calls of what was read.
+    ensures book { HasBook (S.left source.old) (S.left source.new) (K.written sink.old) (K.written sink.new) result.status result.book }
     ensures orders { result.orders.items ≡ [] }
 
     // A fault or want of memory cuts the text short.
@@ -45,8 +47,10 @@ pub fn run_lines<R, S: Source, K: Sink, L: Ledger>(
     ensures write_fault { result.status ≡ Status.WriteFault → Rose (K.faults sink.old) (K.faults sink.new) }
     ensures cut_short { IsCut result.status → Exchanges (S.left source.old) (S.left source.new) (K.written sink.old) (K.written sink.new) (λ given taken. IsFront taken (text_under words.now given)) }
 {
+    let Ended { status, book } = run_words(alloc, words, source, sink);
     RunEnd {
-        status: run_words(alloc, words, source, sink),
+        status,
+        book,
         orders: Vec::new(alloc),
     }
 }
@@ -72,6 +76,8 @@ pub fn run_llama<R, S: Source, K: Sink, G: Gate + Sync, L: Ledger>(
     // Whatever might follow what was read gives the same text, unless the source was read to its end.
     ensures settled { IfSome (end_of result.status) (λ end. Exchanges (S.left source.old) (S.left source.new) (K.written sink.old) (K.written sink.new) (λ given taken. IsSettled (S.left source.old) (S.left source.new) given)) }
     ensures end_of_source { result.status ≡ Status.Done → HasEnded (S.left source.old) (S.left source.new) }
+    // The book stands for the calls of what was read.
+    ensures book { HasBook (S.left source.old) (S.left source.new) (K.written sink.old) (K.written sink.new) result.status result.book }
     ensures orders { result.orders.items ≡ [] }
 
     // A fault or want of memory cuts the text short.
@@ -88,15 +94,19 @@ fn run_words<S: Source, K: Sink>(
     words: &[String],
     source: &mut S,
     sink: &mut K,
-) -> Status
-    ensures inside { AreInGrammar words.now → Ran (S.left source.old) (S.left source.new) (K.written sink.old) (K.written sink.new) result }
-    ensures outside { (AreInGrammar words.now → ⊥) → AreRefused (K.written sink.old) (K.written sink.new) result × (source.new ≡ source.old) }
-    ensures read_fault { result ≡ Status.ReadFault → Rose (S.faults source.old) (S.faults source.new) }
-    ensures write_fault { result ≡ Status.WriteFault → Rose (K.faults sink.old) (K.faults sink.new) }
+) -> Ended
+    ensures inside { AreInGrammar words.now → Ran (S.left source.old) (S.left source.new) (K.written sink.old) (K.written sink.new) result.status }
+    ensures outside { (AreInGrammar words.now → ⊥) → AreRefused (K.written sink.old) (K.written sink.new) result.status × (source.new ≡ source.old) }
+    ensures book { HasBook (S.left source.old) (S.left source.new) (K.written sink.old) (K.written sink.new) result.status result.book }
+    ensures read_fault { result.status ≡ Status.ReadFault → Rose (S.faults source.old) (S.faults source.new) }
+    ensures write_fault { result.status ≡ Status.WriteFault → Rose (K.faults sink.old) (K.faults sink.new) }
 {
     if words.is_empty() {
         run_script(alloc, source, sink)
     } else {
-        refuse_words(alloc, sink)
+        Ended {
+            status: refuse_words(alloc, sink),
+            book: None,
+        }
     }
 }

@@ -3,6 +3,7 @@
 ghost use Rattle.std.specs.Prelude.{◌≡◌, ◌<◌, ◌≤◌, ◌^◌, [], ◌∷◌, ◌++◌, ℕ, List, IfOk, IfErr, OnOk, OnErr, Err, MatchOption, length, take, slice_index};
 ghost use Rattle.lama_base.specs.Faults.{Rose};
 ghost use Rattle.lama_model.specs.Opening.{empty_opening};
+ghost use Rattle.lama_book.specs.Relation.{IsBookOf};
 ghost use Rattle.llama_main.specs.Outlook.{outcome};
 ghost use Rattle.llama_main.specs.Stops.{StopsAt, IsOfScript, HasNoFeed};
 ghost use Rattle.llama_main.specs.Talk.{foreseen, IsTalking, room, Wrote, Stopped};
@@ -12,6 +13,7 @@ use crate::stop::Stop;
 use crate::writing::flush;
 use lama_base::Sink;
 use lama_base::limits::{MAX_LINE_BYTES, MAX_LINES};
+use lama_book::Book;
 use std::alloc::{AllocError, Global};
 
 /// So many bytes are gathered before they are written while lines are still at hand.
@@ -55,6 +57,23 @@ impl Session {
         })
     }
 
+    /// The book, with the calls so far.
+    pub fn into_book(self) -> Book
+        ensures journal { result.journal ≡ self.interpreter.store.journal }
+        ensures book { IsBookOf empty_opening result }
+    {
+        let Session {
+            interpreter,
+            carry: _,
+        } = self;
+        let Interpreter {
+            store,
+            parser: _,
+            out: _,
+        } = interpreter;
+        store.into_book()
+    }
+
     /// Takes the line that ends with this part, given without its line feed.
     fn take_part(&mut self, part: &[u8]) -> Result<(), Stop>
         requires talking { IsTalking self.old }
@@ -62,7 +81,7 @@ impl Session {
         ensures ok { OnOk result ((more : List ℕ) → foreseen self.old (part.now ++ 10 ∷ more) ≡ foreseen self.new more) }
         ensures talking { OnOk result (IsTalking self.new) }
         ensures room { OnOk result (room self.new < room self.old) }
-        ensures err { IfErr result (λ stop. (more : List ℕ) → StopsAt stop self.new.interpreter.out.items (foreseen self.old (part.now ++ 10 ∷ more))) }
+        ensures err { IfErr result (λ stop. (more : List ℕ) → StopsAt stop self.new.interpreter.out.items self.new.interpreter.store.journal (foreseen self.old (part.now ++ 10 ∷ more))) }
         ensures cause { IfErr result IsOfScript }
     {
         if self.carry.as_slice().is_empty() {
@@ -85,7 +104,7 @@ impl Session {
         ensures talking { OnOk result (IsTalking self.new) }
         ensures room { OnOk result (room self.new ≤ room self.old) }
         ensures less_room { OnOk result (0 < length part.now → room self.new < room self.old) }
-        ensures err { IfErr result (λ stop. (more : List ℕ) → StopsAt stop self.new.interpreter.out.items (foreseen self.old (part.now ++ more))) }
+        ensures err { IfErr result (λ stop. (more : List ℕ) → StopsAt stop self.new.interpreter.out.items self.new.interpreter.store.journal (foreseen self.old (part.now ++ more))) }
         ensures cause { IfErr result IsOfScript }
     {
         if part.is_empty() {
@@ -109,7 +128,7 @@ impl Session {
         requires { IsTalking self.old }
         ensures ok { OnOk result (foreseen self.old [] ≡ foreseen self.new []) }
         ensures none { OnOk result (self.new.carry.items ≡ []) }
-        ensures err { IfErr result (λ stop. StopsAt stop self.new.interpreter.out.items (foreseen self.old [])) }
+        ensures err { IfErr result (λ stop. StopsAt stop self.new.interpreter.out.items self.new.interpreter.store.journal (foreseen self.old [])) }
         ensures cause { IfErr result IsOfScript }
     {
         if self.carry.as_slice().is_empty() {
@@ -126,7 +145,7 @@ impl Session {
         ensures ok { OnOk result (Wrote (K.written sink.old) (K.written sink.new) self.old self.new piece.now) }
         ensures talking { OnOk result (IsTalking self.new) }
         ensures room { OnOk result (0 < length piece.now → room self.new < room self.old) }
-        ensures err { IfErr result (Stopped (K.written sink.old) (K.written sink.new) self.old piece.now self.new.interpreter.out.items) }
+        ensures err { IfErr result (Stopped (K.written sink.old) (K.written sink.new) self.old piece.now self.new.interpreter.out.items self.new.interpreter.store.journal) }
         ensures no_read { result ≡ Err Stop.ReadFault → ⊥ }
         ensures cause { result ≡ Err Stop.WriteFault → Rose (K.faults sink.old) (K.faults sink.new) }
         ensures steady { K.faults sink.old ≤ K.faults sink.new }
@@ -154,7 +173,7 @@ impl Session {
         ensures few { OnOk result (length self.new.interpreter.out.items < 65536) }
         ensures talking { IsTalking self.new }
         ensures room { room self.new ≡ room self.old }
-        ensures err { IfErr result (Stopped (K.written sink.old) (K.written sink.new) self.old [] self.new.interpreter.out.items) }
+        ensures err { IfErr result (Stopped (K.written sink.old) (K.written sink.new) self.old [] self.new.interpreter.out.items self.new.interpreter.store.journal) }
         ensures no_read { result ≡ Err Stop.ReadFault → ⊥ }
         ensures cause { result ≡ Err Stop.WriteFault → Rose (K.faults sink.old) (K.faults sink.new) }
         ensures steady { K.faults sink.old ≤ K.faults sink.new }
@@ -173,7 +192,7 @@ impl Session {
         ensures none { self.new.interpreter.out.items ≡ [] }
         ensures talking { IsTalking self.new }
         ensures room { room self.new ≡ room self.old }
-        ensures err { IfErr result (Stopped (K.written sink.old) (K.written sink.new) self.old [] self.new.interpreter.out.items) }
+        ensures err { IfErr result (Stopped (K.written sink.old) (K.written sink.new) self.old [] self.new.interpreter.out.items self.new.interpreter.store.journal) }
         ensures no_read { result ≡ Err Stop.ReadFault → ⊥ }
         ensures cause { result ≡ Err Stop.WriteFault → Rose (K.faults sink.old) (K.faults sink.new) }
         ensures steady { K.faults sink.old ≤ K.faults sink.new }

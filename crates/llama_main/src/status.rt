@@ -1,6 +1,8 @@
 //! How a run ended.
 
-ghost use Rattle.std.specs.Prelude.{◌≡◌};
+ghost use Rattle.std.specs.Prelude.{◌≡◌, is_some};
+
+use lama_book::Book;
 
 /// How a run ended, with the last line that it wrote.
 #[derive(Clone, Copy, Debug, PartialEq, Eq)]
@@ -22,7 +24,17 @@ pub enum Status {
 }
 
 impl Status {
-    ghost use Rattle.llama_main.specs.Ending.{code_of};
+    ghost use Rattle.llama_main.specs.Ending.{code_of, end_of};
+
+    /// Whether it names the script's end.
+    pub fn names_end(&self) -> bool
+        ensures { result ≡ is_some (end_of self.now) }
+    {
+        match self {
+            Status::Done | Status::BadLine { .. } | Status::TooManyLines => true,
+            Status::Usage | Status::ReadFault | Status::WriteFault | Status::NoMemory => false,
+        }
+    }
 
     /// The exit status of the program.
     pub fn code(&self) -> u8
@@ -41,9 +53,11 @@ impl Status {
 }
 
 /// What a run leaves.
-#[derive(Debug, Drop)]
+#[derive(Drop)]
 pub struct RunEnd {
     pub status: Status,
+    /// The book, where the script was read to its end, to a bad line or past the last line.
+    pub book: Option<Book>,
     /// For each block that was run to its end, the lane of each of its calls, oldest first.
     pub orders: Vec<Vec<u16>>,
 }

@@ -1,6 +1,6 @@
 //! The store of a script: a book that begins with no vertices.
 
-ghost use Rattle.std.specs.Prelude.{◌≡◌, ◌≢◌, ◌<◌, ℕ, [], IfOk, OnOk, OnErr, MatchOption};
+ghost use Rattle.std.specs.Prelude.{◌≡◌, ◌≢◌, ◌<◌, ℕ, [], IfOk, OnOk, OnErr, MatchOption, length};
 ghost use Rattle.std.specs.Arc.{arc_value};
 ghost use Rattle.lama_model.specs.Opening.{empty_opening};
 ghost use Rattle.lama_model.specs.Journal.{reply_at};
@@ -8,6 +8,7 @@ ghost use Rattle.lama_model.specs.Text.{look_of};
 ghost use Rattle.lama_model.specs.declared.answers.Reply.TheVariants.{Snapshot as SeenSnapshot};
 ghost use Rattle.lama_model.specs.declared.calls.Call.TheVariants.{Write as WriteCall, Checkpoint, Look, LookAt};
 ghost use Rattle.lama_delta.specs.Pending.{IsAddition};
+ghost use Rattle.lama_book.specs.Relation.{IsBookOf};
 ghost use Rattle.llama_main.specs.Store.{held_by, called, IsFound};
 
 use lama_book::{Book, Looked, Opening};
@@ -43,16 +44,24 @@ impl Store {
         begin::<Brand>(alloc, Blank::new(1))
     }
 
+    /// The book, with the calls so far.
+    pub fn into_book(self) -> Book
+        ensures journal { result.journal ≡ self.journal }
+        ensures book { IsBookOf empty_opening result }
+    {
+        self.book
+    }
+
     /// How many calls were made.
     pub fn calls(&self) -> u32
-        ensures { result ≡ self.now.calls }
+        ensures { result ≡ length self.now.journal }
     {
         self.book.journal().len() as u32
     }
 
     /// Takes a write that adds vertices or an edge.
     pub fn write(&mut self, w: Write) -> Result<Reply, AllocError>
-        requires room { self.old.calls < 4194304 }
+        requires room { length self.old.journal < 4194304 }
         requires addition { IsAddition w }
         ensures reply { IfOk result (λ r. r ≡ reply_at empty_opening self.old.standing (WriteCall w)) }
         ensures after { OnOk result (self.new ≡ called self.old (WriteCall w)) }
@@ -66,7 +75,7 @@ impl Store {
 
     /// Makes the standing graph the graph of the next number.
     pub fn checkpoint(&mut self) -> Result<Reply, AllocError>
-        requires room { self.old.calls < 4194304 }
+        requires room { length self.old.journal < 4194304 }
         ensures reply { IfOk result (λ r. r ≡ reply_at empty_opening self.old.standing Checkpoint) }
         ensures after { OnOk result (self.new ≡ called self.old Checkpoint) }
         ensures err { OnErr result (self.new ≡ self.old) }
@@ -91,7 +100,7 @@ impl Store {
 
     /// Looks for the newest snapshot, or for the one of a number.
     pub fn look(&mut self, at: Option<u32>) -> Result<Looked, AllocError>
-        requires room { self.old.calls < 4194304 }
+        requires room { length self.old.journal < 4194304 }
         ensures reply { IfOk result (λ l. l.reply ≡ reply_at empty_opening self.old.standing (look_of at)) }
         ensures found { IfOk result (λ l. MatchOption l.snapshot ((k : ℕ) → l.reply ≢ SeenSnapshot k) (λ a. IsFound self.new.standing l.reply (arc_value a))) }
         ensures after { OnOk result (self.new ≡ called self.old (look_of at)) }

@@ -11,7 +11,7 @@ returns-in-Err-clause-heard g c =
 pub returns-in-Err-read-clause-heard : goal.returns-in-Err-read-clause-heard
 returns-in-Err-read-clause-heard g c =
     let reached = Reached-written _ _ _ _ _ c.args.session.now c.pieces.session c.write_all.new.self c.pieces.invariant.reached (IfOk-at_ok _ c.in-Ok.is c.write_all.ensures.ok) in
-    Heard-unread _ _ _ _ _ c.args.session.now c.write_all.new.self c.write_all.new.self.interpreter.store.calls reached c.in-Err-read.ensures.kept
+    Heard-unread _ _ _ _ _ c.args.session.now c.write_all.new.self c.write_all.new.self.interpreter.store.journal reached c.in-Err-read.ensures.kept
 
 pub returns-then-n-eq0-clause-heard : goal.returns-then-n-eq0-clause-heard
 returns-then-n-eq0-clause-heard g c =

@@ -8,5 +8,5 @@ pub returns-in-Err-clause-heard : goal.returns-in-Err-clause-heard
 returns-in-Err-clause-heard g c =
     let left = g.S.Source.left c.args.source.now in
     let written = g.K.Sink.written c.args.sink.now in
-    let calls = c.args.session.now.interpreter.store.calls in
-    subst (λ (out : List ℕ). Heard left left written written c.args.session.now out calls (Err NoMemory)) (sym c.requires.none) (Heard-nothing left written c.args.session.now calls)
+    let journal = c.args.session.now.interpreter.store.journal in
+    subst (λ (out : List ℕ). Heard left left written written c.args.session.now out journal (Err NoMemory)) (sym c.requires.none) (Heard-nothing left written c.args.session.now journal)

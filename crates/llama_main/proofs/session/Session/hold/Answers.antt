@@ -19,4 +19,4 @@ returns-then-part-len-clause-err c = λ more.
     let carry = c.args.self.now.carry.items in
     let line = carry ++ c.args.part.now in
     ap (λ (xs : List ℕ). outlook i (lines xs)) (sym (append_assoc carry c.args.part.now more))
-    ∙ (outlook-long i line more (All-append (λ b. is_line_feed b ≡ false) carry c.args.part.now c.requires.talking.no_feed c.requires.no_feed) (omega (arith, length-append carry c.args.part.now)) (omega arith) ∙ ap (λ (n : ℕ). last_of i.out.items (BadAt (n + 1))) (sym c.taken-taken.ensures.count))
+    ∙ (outlook-long i line more (All-append (λ b. is_line_feed b ≡ false) carry c.args.part.now c.requires.talking.no_feed c.requires.no_feed) (omega (arith, length-append carry c.args.part.now)) (omega arith) ∙ ap (λ (n : ℕ). last_of i.out.items i.store.journal (BadAt (n + 1))) (sym c.taken-taken.ensures.count))

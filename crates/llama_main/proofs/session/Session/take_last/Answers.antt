@@ -13,4 +13,4 @@ pub returns-clause-err : goal.returns-clause-err
 returns-clause-err c =
     let carry = c.args.self.now.carry.items in
     let some : 0 < length carry = subst (λ xs. 0 < length xs) c.as_slice.ensures.value (some_list c.as_slice.result.now (sym c.is_empty.ensures ∙ c.if-is_empty.false)) in
-    IfErr-weaker c.take_line-answer.result _ _ (λ stop stops. last-stopped c.args.self.now.interpreter stop c.take_line-answer.new.self.out.items carry c.deref.result.now c.requires.no_feed some c.deref.ensures.value stops) c.take_line-answer.ensures.err
+    IfErr-weaker c.take_line-answer.result _ _ (λ stop stops. last-stopped c.args.self.now.interpreter stop c.take_line-answer.new.self.out.items carry c.deref.result.now c.take_line-answer.new.self.store.journal c.requires.no_feed some c.deref.ensures.value stops) c.take_line-answer.ensures.err

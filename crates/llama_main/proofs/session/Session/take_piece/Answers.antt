@@ -8,7 +8,7 @@ use Rattle.llama_main.proofs.session.Session.take_piece.Goals as goal
 pub returns-in-Err-clause-err : goal.returns-in-Err-clause-err
 returns-in-Err-clause-err g c =
     let f = c.lines.invariant.front in
-    stop-in-line _ _ c.args.self.now c.lines.self c.args.piece.now f.0 c.lines.rest.now c.in-Some.line.now c.in-Some.after.now _ c.in-Err.stop f.1 c.in-Some.ensures.1 f.2 (IfErr-at_err _ c.in-Err.is c.take_part.ensures.err)
+    stop-in-line _ _ c.args.self.now c.lines.self c.args.piece.now f.0 c.lines.rest.now c.in-Some.line.now c.in-Some.after.now _ _ c.in-Err.stop f.1 c.in-Some.ensures.1 f.2 (IfErr-at_err _ c.in-Err.is c.take_part.ensures.err)
 
 pub lines-preserved : goal.lines-preserved
 lines-preserved g c =
@@ -35,9 +35,9 @@ lines-preserved g c =
 pub returns-in-Err-write_gathered-clause-err : goal.returns-in-Err-write_gathered-clause-err
 returns-in-Err-write_gathered-clause-err g c =
     let f = c.lines.invariant.front in
-    stop-in-writing _ _ _ c.args.self.now c.lines.self c.take_part.new.self c.args.piece.now f.0 c.lines.rest.now c.in-Some.line.now c.in-Some.after.now _ c.in-Err-write_gathered.stop f.1 c.in-Some.ensures.1 f.2 (IfOk-at_ok _ c.in-Ok.is c.take_part.ensures.ok) (IfErr-at_err _ c.in-Err-write_gathered.is c.write_gathered.ensures.err)
+    stop-in-writing _ _ _ c.args.self.now c.lines.self c.take_part.new.self c.args.piece.now f.0 c.lines.rest.now c.in-Some.line.now c.in-Some.after.now _ _ c.in-Err-write_gathered.stop f.1 c.in-Some.ensures.1 f.2 (IfOk-at_ok _ c.in-Ok.is c.take_part.ensures.ok) (IfErr-at_err _ c.in-Err-write_gathered.is c.write_gathered.ensures.err)
 
 pub returns-clause-err : goal.returns-clause-err
 returns-clause-err g c =
     let f = c.lines.invariant.front in
-    IfErr-weaker c.hold.result _ _ (λ stop stops. stop-in-rest _ _ c.args.self.now c.lines.self c.args.piece.now f.0 c.lines.rest.now c.hold.new.self.interpreter.out.items stop f.1 f.2 stops) c.hold.ensures.err
+    IfErr-weaker c.hold.result _ _ (λ stop stops. stop-in-rest _ _ c.args.self.now c.lines.self c.args.piece.now f.0 c.lines.rest.now c.hold.new.self.interpreter.out.items c.hold.new.self.interpreter.store.journal stop f.1 f.2 stops) c.hold.ensures.err
