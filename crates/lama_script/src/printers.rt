@@ -38,6 +38,19 @@ pub fn print_row<R: Rows>(out: &mut Vec<u8>, k: u32, rows: &R, v: u32) -> Result
     printed
 }
 
+/// Appends a line that is a text and a number. Without memory the output stays as it was.
+pub fn print_numbered(out: &mut Vec<u8>, text: &[u8], number: u64) -> Result<(), AllocError>
+    ensures ok { OnOk result (out.new.items ≡ out.old.items ++ (text.now ++ decimal number ++ codes "\n")) }
+    ensures err { OnErr result (out.new.items ≡ out.old.items) }
+{
+    let before = out.len();
+    let printed = append_named(out, text, number);
+    if printed.is_err() {
+        out.truncate(before);
+    }
+    printed
+}
+
 // Each function below may leave a part of its text behind the output where there is no memory for the rest.
 
 #[tactic(auto, unfolding(lama_model::specs::Lines::reply_line))]

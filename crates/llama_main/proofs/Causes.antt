@@ -5,7 +5,7 @@ use Rattle.llama_main.specs.declared.stop.Stop.{Stop}
 use Rattle.llama_main.specs.declared.stop.Stop.TheVariants.{BadLine, TooManyLines, ReadFault, WriteFault, NoMemory}
 use Rattle.llama_main.specs.declared.status.Status.{Status}
 use Rattle.llama_main.specs.declared.status.Status.TheVariants as statuses
-use Rattle.llama_main.specs.Hearing.{status_of}
+use Rattle.llama_main.specs.Run.{status_of}
 
 -- a count that rose has risen ever after
 pub Rose-later : (a b c : ℕ) → Rose a b → b ≤ c → (b < 2 ^ 64 → c < 2 ^ 64) → Rose a c

@@ -1,11 +1,11 @@
 pub mod Bytes
 pub mod LineLemmas
-pub mod Future
+pub mod Expectations
 pub mod Plain
-pub mod Told
+pub mod LineMeanings
 pub mod Reading
-pub mod Talking
-pub mod Conversation
+pub mod Sessions
+pub mod Runs
 pub mod Causes
 pub mod Top
 pub mod Holding

@@ -7,7 +7,7 @@ use Rattle.lama_model.specs.declared.commands.Command.{Command}
 use Rattle.lama_model.specs.declared.calls.Write.TheVariants.{Vertices}
 use Rattle.lama_model.specs.declared.commands.Command.TheVariants.{Write as Writes, Read as Reads}
 use Rattle.lama_model.specs.declared.commands.Read.{Read}
-use Rattle.llama_main.specs.Outlook.{IsPlain}
+use Rattle.llama_main.specs.Expected.{IsPlain}
 
 -- each option's command is plain
 abbrev ArePlain : Option Command → Type 0

@@ -18,7 +18,7 @@ use Rattle.lama_model.specs.declared.answers.Reply.TheVariants.{Accepted, Count,
 use Rattle.lama_model.specs.declared.answers.Refusal.{Refusal}
 use Rattle.lama_model.specs.declared.answers.Refusal.TheVariants.{UnknownVertex}
 use Rattle.llama_main.specs.Store.{Held}
-use Rattle.llama_main.specs.Outlook.{printed, printed_reading, held_after}
+use Rattle.llama_main.specs.Expected.{printed, printed_reading, held_after}
 
 -- a refusal's line is the same for any command
 pub reply_line-refused : (c : Command) (r : Refusal) → reply_line c (Refused r) ≡ refusal_line r

@@ -13,8 +13,8 @@ use Rattle.llama_main.specs.Stops.{IsFront, Appends, Gave, HasEnded}
 use Rattle.llama_main.specs.Ending.{end_of, HasBook, IsCut, IsOutside, Exchanges, IsText, IsSettled}
 use Rattle.lama_book.specs.Book.{Book}
 use Rattle.lama_book.specs.Relation.{IsBookOf}
-use Rattle.llama_main.specs.Outlook.{journal_of}
-use Rattle.llama_main.specs.Hearing.{Ran, RanWith, Fits}
+use Rattle.llama_main.specs.Expected.{journal_of}
+use Rattle.llama_main.specs.Run.{Ran, RanWith, Fits}
 use Rattle.llama_main.specs.Words.{text_under, AreRefused}
 use Rattle.llama_main.proofs.Bytes.{Gave-none}
 

@@ -9,7 +9,7 @@ use Rattle.llama_main.specs.declared.status.Status.{Status}
 use Rattle.llama_main.specs.declared.status.Status.TheVariants.{Done, Usage, BadLine, ReadFault, WriteFault, NoMemory, TooManyLines}
 use Rattle.lama_book.specs.Book.{Book}
 use Rattle.lama_book.specs.Relation.{IsBookOf}
-use Rattle.llama_main.specs.Outlook.{outcome, journal_of}
+use Rattle.llama_main.specs.Expected.{outcome, journal_of}
 use Rattle.llama_main.specs.Stops.{Appends, Gave, HasEnded}
 
 -- the exit status of the program

@@ -1,8 +1,8 @@
 pub mod Store
-pub mod Outlook
+pub mod Expected
 pub mod Stops
-pub mod Going
-pub mod Talk
+pub mod Interpreter
+pub mod Session
 pub mod Ending
-pub mod Hearing
+pub mod Run
 pub mod Words

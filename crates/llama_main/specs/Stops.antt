@@ -4,7 +4,7 @@ use Rattle.lama_model.specs.Script.{End, is_line_feed}
 use Rattle.lama_model.specs.Script.End.{BadAt, TooMany}
 use Rattle.lama_model.specs.Lines.{last_line}
 use Rattle.lama_model.specs.declared.calls.Entry.{Entry}
-use Rattle.llama_main.specs.Outlook.{Outcome}
+use Rattle.llama_main.specs.Expected.{Outcome}
 use Rattle.llama_main.specs.declared.stop.Stop.{Stop}
 use Rattle.llama_main.specs.declared.stop.Stop.TheVariants.{BadLine, TooManyLines, ReadFault, WriteFault, NoMemory}
 

@@ -7,9 +7,9 @@ ghost use Rattle.lama_model.specs.Journal.{graph_of};
 ghost use Rattle.lama_model.specs.Text.{read_lines};
 ghost use Rattle.lama_model.specs.declared.commands.Read.TheVariants.{Row};
 ghost use Rattle.llama_main.specs.Store.{held_by};
-ghost use Rattle.llama_main.specs.Outlook.{IsPlain, held_after, printed, outlook_at};
+ghost use Rattle.llama_main.specs.Expected.{IsPlain, held_after, printed, expected_from};
 ghost use Rattle.llama_main.specs.Stops.{StopsAt, IsOfScript};
-ghost use Rattle.llama_main.specs.Going.{outlook, IsGoing, command_in};
+ghost use Rattle.llama_main.specs.Interpreter.{expected_of, IsRunning, command_in};
 
 use crate::stop::Stop;
 use crate::store::Store;
@@ -31,8 +31,8 @@ pub struct Interpreter {
 impl Interpreter {
     /// Before the first line.
     pub fn new(alloc: Global) -> Result<Interpreter, AllocError>
-        ensures start { IfOk result (λ i. (rest : List (List ℕ)) → outlook i rest ≡ outlook_at (held_by []) 1 rest) }
-        ensures going { IfOk result (λ i. IsGoing i) }
+        ensures start { IfOk result (λ i. (rest : List (List ℕ)) → expected_of i rest ≡ expected_from (held_by []) 1 rest) }
+        ensures running { IfOk result (λ i. IsRunning i) }
         ensures none { IfOk result (λ i. i.out.items ≡ []) }
     {
         Ok(Interpreter {
@@ -66,12 +66,12 @@ impl Interpreter {
 
     /// Does what the line says, which was given without its line feed, and gathers what it prints.
     pub fn take_line(&mut self, line: &[u8]) -> Result<(), Stop>
-        requires { IsGoing self.old }
-        ensures ok { OnOk result ((rest : List (List ℕ)) → outlook self.old (line.now ∷ rest) ≡ outlook self.new rest) }
-        ensures going { OnOk result (IsGoing self.new) }
+        requires { IsRunning self.old }
+        ensures ok { OnOk result ((rest : List (List ℕ)) → expected_of self.old (line.now ∷ rest) ≡ expected_of self.new rest) }
+        ensures running { OnOk result (IsRunning self.new) }
         ensures next { OnOk result (self.new.parser.taken ≡ self.old.parser.taken + 1) }
         ensures within { OnOk result (self.new.parser.taken ≤ 2097152) }
-        ensures err { IfErr result (λ stop. (rest : List (List ℕ)) → StopsAt stop self.new.out.items self.new.store.journal (outlook self.old (line.now ∷ rest))) }
+        ensures err { IfErr result (λ stop. (rest : List (List ℕ)) → StopsAt stop self.new.out.items self.new.store.journal (expected_of self.old (line.now ∷ rest))) }
         ensures cause { IfErr result IsOfScript }
     {
         match self.parser.line(line) {

@@ -7,31 +7,31 @@ ghost use Rattle.llama_main.specs.Stops.{IsFront, Appends};
 ghost use Rattle.llama_main.specs.Ending.{last_text, end_of, HasBook};
 ghost use Rattle.lama_model.specs.Opening.{empty_opening};
 ghost use Rattle.lama_book.specs.Relation.{IsBookOf};
-ghost use Rattle.llama_main.specs.Hearing.{Heard, status_of, Ran};
-ghost use Rattle.llama_main.specs.Talk.{IsTalking};
+ghost use Rattle.llama_main.specs.Run.{HasRead, status_of, Ran};
+ghost use Rattle.llama_main.specs.Session.{IsReady};
 
 use crate::session::Session;
 use crate::status::Status;
 use crate::stop::Stop;
 use crate::writing::flush;
-use itoa::Buffer;
 use lama_base::{Sink, Source};
 use lama_book::Book;
+use lama_script::print_numbered;
 use std::alloc::{AllocError, Global};
 
 /// So many bytes are read at a time.
 const PIECE: usize = 65_536;
 
 /// Reads the script to its end or to where it stops. Answers are written before each read.
-fn converse<S: Source, K: Sink>(
+fn read_pieces<S: Source, K: Sink>(
     source: &mut S,
     sink: &mut K,
     session: &mut Session,
     buf: &mut [u8],
 ) -> Result<(), Stop>
-    requires talking { IsTalking session.old }
+    requires ready { IsReady session.old }
     requires room { 0 < length buf.old }
-    ensures heard { Heard (S.left source.old) (S.left source.new) (K.written sink.old) (K.written sink.new) session.old session.new.interpreter.out.items session.new.interpreter.store.journal result }
+    ensures has_read { HasRead (S.left source.old) (S.left source.new) (K.written sink.old) (K.written sink.new) session.old session.new.interpreter.out.items session.new.interpreter.store.journal result }
     ensures read_cause { result ≡ Err Stop.ReadFault → Rose (S.faults source.old) (S.faults source.new) }
     ensures write_cause { result ≡ Err Stop.WriteFault → Rose (K.faults sink.old) (K.faults sink.new) }
     ensures read_steady { S.faults source.old ≤ S.faults source.new }
@@ -65,47 +65,12 @@ fn print_last(out: &mut Vec<u8>, calls: u32, status: Status) -> Result<(), Alloc
     ensures err { OnErr result (out.new.items ≡ out.old.items) }
 {
     match status {
-        Status::Done => print_number(out, b"end ", calls),
-        Status::BadLine { line } => print_number(out, b"bad line ", line),
-        Status::TooManyLines => append(out, b"too many lines\n"),
-        Status::Usage => append(out, b"usage\n"),
+        Status::Done => print_numbered(out, b"end ", u64::from(calls)),
+        Status::BadLine { line } => print_numbered(out, b"bad line ", u64::from(line)),
+        Status::TooManyLines => out.extend_from_slice(b"too many lines\n"),
+        Status::Usage => out.extend_from_slice(b"usage\n"),
         Status::ReadFault | Status::WriteFault | Status::NoMemory => Ok(()),
     }
-}
-
-/// Appends a text.
-fn append(out: &mut Vec<u8>, text: &[u8]) -> Result<(), AllocError>
-    ensures ok { OnOk result (out.new.items ≡ out.old.items ++ text.now) }
-    ensures err { OnErr result (out.new.items ≡ out.old.items) }
-{
-    out.extend_from_slice(text)
-}
-
-/// Appends a line that is a text and a number.
-fn print_number(out: &mut Vec<u8>, text: &[u8], number: u32) -> Result<(), AllocError>
-    requires { length text.now ≤ 16 }
-    ensures ok { OnOk result (out.new.items ≡ out.old.items ++ (text.now ++ decimal number ++ codes "\n")) }
-    ensures err { OnErr result (out.new.items ≡ out.old.items) }
-{
-    let len = out.len();
-    match append_number(out, text, number) {
-        Ok(()) => Ok(()),
-        Err(fault) => {
-            out.truncate(len);
-            Err(fault)
-        }
-    }
-}
-
-/// Appends such a line, or a front of it.
-fn append_number(out: &mut Vec<u8>, text: &[u8], number: u32) -> Result<(), AllocError>
-    ensures ok { OnOk result (out.new.items ≡ out.old.items ++ (text.now ++ decimal number ++ codes "\n")) }
-    ensures err { OnErr result (IsFront out.old.items out.new.items) }
-{
-    out.extend_from_slice(text)?;
-    let mut buffer = Buffer::new();
-    out.extend_from_slice(buffer.format(number).as_bytes())?;
-    out.extend_from_slice(b"\n")
 }
 
 /// Writes what was gathered and the last line of a status. Says how the run ends: so, or by a fault of the sink.
@@ -128,22 +93,22 @@ fn conclude<K: Sink>(sink: &mut K, out: &mut Vec<u8>, calls: u32, status: Status
 }
 
 /// Reads the script of the source to its end or to where it stops.
-fn hear<S: Source, K: Sink>(
+fn read_script<S: Source, K: Sink>(
     alloc: Global,
     source: &mut S,
     sink: &mut K,
     session: &mut Session,
 ) -> Result<(), Stop>
-    requires talking { IsTalking session.old }
+    requires ready { IsReady session.old }
     requires none { session.old.interpreter.out.items ≡ [] }
-    ensures heard { Heard (S.left source.old) (S.left source.new) (K.written sink.old) (K.written sink.new) session.old session.new.interpreter.out.items session.new.interpreter.store.journal result }
+    ensures has_read { HasRead (S.left source.old) (S.left source.new) (K.written sink.old) (K.written sink.new) session.old session.new.interpreter.out.items session.new.interpreter.store.journal result }
     ensures read_cause { result ≡ Err Stop.ReadFault → Rose (S.faults source.old) (S.faults source.new) }
     ensures write_cause { result ≡ Err Stop.WriteFault → Rose (K.faults sink.old) (K.faults sink.new) }
     ensures write_steady { K.faults sink.old ≤ K.faults sink.new }
     ensures write_bounded { K.faults sink.old < 2 ^ 64 → K.faults sink.new < 2 ^ 64 }
 {
     match vec![in alloc; 0u8; PIECE] {
-        Ok(mut piece) => converse(source, sink, session, &mut piece),
+        Ok(mut piece) => read_pieces(source, sink, session, &mut piece),
         Err(_) => Err(Stop::NoMemory),
     }
 }
@@ -168,7 +133,7 @@ pub fn run_script<S: Source, K: Sink>(alloc: Global, source: &mut S, sink: &mut 
             book: None,
         };
     };
-    let answer = hear(alloc, source, sink, &mut session);
+    let answer = read_script(alloc, source, sink, &mut session);
     let calls = session.interpreter.calls();
     let status = status_after(answer);
     let status = conclude(sink, &mut session.interpreter.out, calls, status);

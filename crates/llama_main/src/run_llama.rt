@@ -5,7 +5,7 @@ ghost use Rattle.lama_base.specs.Faults.{Rose};
 ghost use Rattle.lama_model.specs.Lines.{usage_line};
 ghost use Rattle.llama_main.specs.Stops.{IsFront, Appends, HasEnded};
 ghost use Rattle.llama_main.specs.Ending.{end_of, IsCut, IsOutside, Exchanges, HasBook, IsText, IsSettled};
-ghost use Rattle.llama_main.specs.Hearing.{Ran};
+ghost use Rattle.llama_main.specs.Run.{Ran};
 ghost use Rattle.llama_main.specs.Words.{AreInGrammar, text_under, AreRefused};
 
 use crate::run::{Ended, refuse_words, run_script};

@@ -4,9 +4,9 @@ ghost use Rattle.std.specs.Prelude.{◌≡◌, ◌<◌, ◌≤◌, ◌^◌, [], 
 ghost use Rattle.lama_base.specs.Faults.{Rose};
 ghost use Rattle.lama_model.specs.Opening.{empty_opening};
 ghost use Rattle.lama_book.specs.Relation.{IsBookOf};
-ghost use Rattle.llama_main.specs.Outlook.{outcome};
+ghost use Rattle.llama_main.specs.Expected.{outcome};
 ghost use Rattle.llama_main.specs.Stops.{StopsAt, IsOfScript, HasNoFeed};
-ghost use Rattle.llama_main.specs.Talk.{foreseen, IsTalking, room, Wrote, Stopped};
+ghost use Rattle.llama_main.specs.Session.{expected, IsReady, room, Wrote, Stopped};
 
 use crate::interpreter::Interpreter;
 use crate::stop::Stop;
@@ -47,8 +47,8 @@ fn line_end(bytes: &[u8]) -> Option<usize>
 impl Session {
     /// Before any byte came.
     pub fn new(alloc: Global) -> Result<Session, AllocError>
-        ensures start { IfOk result (λ s. (bytes : List ℕ) → outcome empty_opening bytes ≡ foreseen s bytes) }
-        ensures talking { IfOk result (λ s. IsTalking s) }
+        ensures start { IfOk result (λ s. (bytes : List ℕ) → outcome empty_opening bytes ≡ expected s bytes) }
+        ensures ready { IfOk result (λ s. IsReady s) }
         ensures none { IfOk result (λ s. s.interpreter.out.items ≡ []) }
     {
         Ok(Session {
@@ -76,12 +76,12 @@ impl Session {
 
     /// Takes the line that ends with this part, given without its line feed.
     fn take_part(&mut self, part: &[u8]) -> Result<(), Stop>
-        requires talking { IsTalking self.old }
+        requires ready { IsReady self.old }
         requires no_feed { HasNoFeed part.now }
-        ensures ok { OnOk result ((more : List ℕ) → foreseen self.old (part.now ++ 10 ∷ more) ≡ foreseen self.new more) }
-        ensures talking { OnOk result (IsTalking self.new) }
+        ensures ok { OnOk result ((more : List ℕ) → expected self.old (part.now ++ 10 ∷ more) ≡ expected self.new more) }
+        ensures ready { OnOk result (IsReady self.new) }
         ensures room { OnOk result (room self.new < room self.old) }
-        ensures err { IfErr result (λ stop. (more : List ℕ) → StopsAt stop self.new.interpreter.out.items self.new.interpreter.store.journal (foreseen self.old (part.now ++ 10 ∷ more))) }
+        ensures err { IfErr result (λ stop. (more : List ℕ) → StopsAt stop self.new.interpreter.out.items self.new.interpreter.store.journal (expected self.old (part.now ++ 10 ∷ more))) }
         ensures cause { IfErr result IsOfScript }
     {
         if self.carry.as_slice().is_empty() {
@@ -98,13 +98,13 @@ impl Session {
 
     /// Keeps the front of a line that has not come whole.
     fn hold(&mut self, part: &[u8]) -> Result<(), Stop>
-        requires talking { IsTalking self.old }
+        requires ready { IsReady self.old }
         requires no_feed { HasNoFeed part.now }
-        ensures ok { OnOk result ((more : List ℕ) → foreseen self.old (part.now ++ more) ≡ foreseen self.new more) }
-        ensures talking { OnOk result (IsTalking self.new) }
+        ensures ok { OnOk result ((more : List ℕ) → expected self.old (part.now ++ more) ≡ expected self.new more) }
+        ensures ready { OnOk result (IsReady self.new) }
         ensures room { OnOk result (room self.new ≤ room self.old) }
         ensures less_room { OnOk result (0 < length part.now → room self.new < room self.old) }
-        ensures err { IfErr result (λ stop. (more : List ℕ) → StopsAt stop self.new.interpreter.out.items self.new.interpreter.store.journal (foreseen self.old (part.now ++ more))) }
+        ensures err { IfErr result (λ stop. (more : List ℕ) → StopsAt stop self.new.interpreter.out.items self.new.interpreter.store.journal (expected self.old (part.now ++ more))) }
         ensures cause { IfErr result IsOfScript }
     {
         if part.is_empty() {
@@ -125,10 +125,10 @@ impl Session {
 
     /// Takes the last line, where bytes have come of it, once no more will come.
     pub fn take_last(&mut self) -> Result<(), Stop>
-        requires { IsTalking self.old }
-        ensures ok { OnOk result (foreseen self.old [] ≡ foreseen self.new []) }
+        requires { IsReady self.old }
+        ensures ok { OnOk result (expected self.old [] ≡ expected self.new []) }
         ensures none { OnOk result (self.new.carry.items ≡ []) }
-        ensures err { IfErr result (λ stop. StopsAt stop self.new.interpreter.out.items self.new.interpreter.store.journal (foreseen self.old [])) }
+        ensures err { IfErr result (λ stop. StopsAt stop self.new.interpreter.out.items self.new.interpreter.store.journal (expected self.old [])) }
         ensures cause { IfErr result IsOfScript }
     {
         if self.carry.as_slice().is_empty() {
@@ -141,9 +141,9 @@ impl Session {
 
     /// Takes the next piece of the script. Gathered answers are written as they grow.
     pub fn take_piece<K: Sink>(&mut self, sink: &mut K, piece: &[u8]) -> Result<(), Stop>
-        requires { IsTalking self.old }
+        requires { IsReady self.old }
         ensures ok { OnOk result (Wrote (K.written sink.old) (K.written sink.new) self.old self.new piece.now) }
-        ensures talking { OnOk result (IsTalking self.new) }
+        ensures ready { OnOk result (IsReady self.new) }
         ensures room { OnOk result (0 < length piece.now → room self.new < room self.old) }
         ensures err { IfErr result (Stopped (K.written sink.old) (K.written sink.new) self.old piece.now self.new.interpreter.out.items self.new.interpreter.store.journal) }
         ensures no_read { result ≡ Err Stop.ReadFault → ⊥ }
@@ -168,10 +168,10 @@ impl Session {
 
     /// Writes what was gathered where that is much.
     fn write_gathered<K: Sink>(&mut self, sink: &mut K) -> Result<(), Stop>
-        requires { IsTalking self.old }
+        requires { IsReady self.old }
         ensures ok { OnOk result (Wrote (K.written sink.old) (K.written sink.new) self.old self.new []) }
         ensures few { OnOk result (length self.new.interpreter.out.items < 65536) }
-        ensures talking { IsTalking self.new }
+        ensures ready { IsReady self.new }
         ensures room { room self.new ≡ room self.old }
         ensures err { IfErr result (Stopped (K.written sink.old) (K.written sink.new) self.old [] self.new.interpreter.out.items self.new.interpreter.store.journal) }
         ensures no_read { result ≡ Err Stop.ReadFault → ⊥ }
@@ -187,10 +187,10 @@ impl Session {
 
     /// Writes what was gathered.
     pub fn write_all<K: Sink>(&mut self, sink: &mut K) -> Result<(), Stop>
-        requires { IsTalking self.old }
+        requires { IsReady self.old }
         ensures ok { OnOk result (Wrote (K.written sink.old) (K.written sink.new) self.old self.new []) }
         ensures none { self.new.interpreter.out.items ≡ [] }
-        ensures talking { IsTalking self.new }
+        ensures ready { IsReady self.new }
         ensures room { room self.new ≡ room self.old }
         ensures err { IfErr result (Stopped (K.written sink.old) (K.written sink.new) self.old [] self.new.interpreter.out.items self.new.interpreter.store.journal) }
         ensures no_read { result ≡ Err Stop.ReadFault → ⊥ }

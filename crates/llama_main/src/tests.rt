@@ -65,7 +65,15 @@ fn gives<R: AllocGlobal + Abort>(
 
 #[test]
 fn scripts_give_their_texts(rt: HostRuntime) -> Result<(), Fail> {
-    let done: [(&[u8], &[u8]); 6] = [
+    let done: [(&[u8], &[u8]); 8] = [
+        (
+            b"vertices 1\ncheckpoint\n@1 row 0\n@5 row 0\n",
+            b"vertices 1\nsnapshot 1\nrow 1 0 :\nno snapshot 5 of 0 1\nend 4\n",
+        ),
+        (
+            b"vertices 2\nadd 0 1 5\ncheckpoint\nadd 0 1 6\nvertices 1\ncheckpoint\n@1 row 0\n@2 row 0\n@1 row 2\n@0 row 0\nrow 2\n",
+            b"vertices 2\nsnapshot 1\nvertices 3\nsnapshot 2\nrow 1 0 : 1/5\nrow 2 0 : 1/6 1/5\nunknown vertex 2 of 2\nunknown vertex 0 of 0\nrow 2 2 :\nend 11\n",
+        ),
         (b"", b"end 0\n"),
         (
             b"vertices 3\nadd 0 1\nadd 0 2\ncheckpoint\nrow 0\n",

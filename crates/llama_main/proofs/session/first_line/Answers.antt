@@ -1,6 +1,6 @@
 use Rattle.std.proofs.Common.{◌≡◌, ◌++◌, ◌∷◌, ◌+◌, ◌-◌, ap, sym, ◌∙◌, length, take, drop, arith}
 use Rattle.std.proofs.lemmas.List.{take_all, length-drop}
-use Rattle.llama_main.proofs.Talking.{cut_line}
+use Rattle.llama_main.proofs.Sessions.{cut_line}
 use Rattle.llama_main.proofs.session.first_line.Goals as goal
 
 pub returns-in-Some : goal.returns-in-Some

@@ -1,8 +1,8 @@
 use Rattle.std.proofs.Common.{◌≤◌, ◌∙◌, ap, subst, sym, Ok, Err}
 use Rattle.std.proofs.lemmas.Result.{IfOk-at_ok}
-use Rattle.llama_main.specs.Going.{command_in}
+use Rattle.llama_main.specs.Interpreter.{command_in}
 use Rattle.llama_main.proofs.Plain.{IsPlain-said}
-use Rattle.llama_main.proofs.Told.{answered_item, answered_bad, answered_many, next_skipped, next_says, taken_within, goes_bad, goes_many}
+use Rattle.llama_main.proofs.LineMeanings.{answered_item, answered_bad, answered_many, next_skipped, next_says, taken_within, expected_bad, expected_many}
 use Rattle.llama_main.proofs.interpreter.Interpreter.take_line.Goals as goal
 
 pub run-requires-clause-plain : goal.run-requires-clause-plain
@@ -21,12 +21,12 @@ returns-in-Ok-clause-ok c = λ rest.
 pub returns-in-Err-BadLine-clause-err : goal.returns-in-Err-BadLine-clause-err
 returns-in-Err-BadLine-clause-err c = λ rest.
     let told = answered_bad c.args.self.now.parser c.args.line.now c.line.result c.in-Err-BadLine.line c.requires.whole c.line.ensures.answer (c.in-Err-BadLine.is ∙ ap Err c.in-Err-BadLine.field-0-is) in
-    goes_bad c.args.self.now.store _ c.in-Err-BadLine.line c.args.self.now.out.items c.args.line.now rest told
+    expected_bad c.args.self.now.store _ c.in-Err-BadLine.line c.args.self.now.out.items c.args.line.now rest told
 
 pub returns-in-Err-TooLong-clause-err : goal.returns-in-Err-TooLong-clause-err
 returns-in-Err-TooLong-clause-err c = λ rest.
     let many = answered_many c.args.self.now.parser c.args.line.now c.line.result c.requires.whole c.line.ensures.answer (c.in-Err-TooLong.is ∙ ap Err c.in-Err-TooLong.field-0-is) in
-    goes_many c.args.self.now.store _ c.args.self.now.out.items c.args.line.now rest many
+    expected_many c.args.self.now.store _ c.args.self.now.out.items c.args.line.now rest many
 
 pub returns-in-Ok-None-clause-within : goal.returns-in-Ok-None-clause-within
 returns-in-Ok-None-clause-within c =

@@ -1,6 +1,6 @@
 use Rattle.std.proofs.Common.{◌<◌, subst, sym, ◌∙◌, length}
 use Rattle.std.proofs.lemmas.Result.{on_ok_weaker, IfErr-weaker}
-use Rattle.llama_main.proofs.Talking.{some_list, last-taken, last-stopped}
+use Rattle.llama_main.proofs.Sessions.{some_list, last-taken, last-stopped}
 use Rattle.llama_main.proofs.session.Session.take_last.Goals as goal
 
 pub returns-clause-ok : goal.returns-clause-ok

@@ -1,8 +1,8 @@
 use Rattle.std.proofs.Common.{◌≡◌, ◌≤◌, ◌<◌, ◌++◌, ◌∷◌, [], ap, length, arith}
 use Rattle.std.proofs.lemmas.List.{length-append}
 use Rattle.std.proofs.lemmas.Result.{IfErr-at_err, IfErr-weaker, IfOk-at_ok}
-use Rattle.llama_main.specs.Talk.{room}
-use Rattle.llama_main.proofs.Talking.{Wrote-line, piece-line, stop-in-line, stop-in-rest, stop-in-writing}
+use Rattle.llama_main.specs.Session.{room}
+use Rattle.llama_main.proofs.Sessions.{Wrote-line, piece-line, stop-in-line, stop-in-rest, stop-in-writing}
 use Rattle.llama_main.proofs.session.Session.take_piece.Goals as goal
 
 pub returns-in-Err-clause-err : goal.returns-in-Err-clause-err
@@ -19,7 +19,7 @@ lines-preserved g c =
     let same : room c.write_gathered.new.self ≡ room c.take_part.new.self = c.write_gathered.ensures.room in
     let before : room c.lines.self ≤ room c.args.self.now = c.lines.invariant.no_more_room in
     record {
-      talking = c.write_gathered.ensures.talking;
+      ready = c.write_gathered.ensures.ready;
       within = omega (arith, longer, c.lines.invariant.within);
       no_more_room = omega (arith, less, same, before);
       less_room = λ _. omega (arith, less, same, before);

@@ -1,10 +1,10 @@
 use Rattle.std.proofs.Common.{◌≡◌, ◌<◌, ◌≤◌, ◌^◌, ◌++◌, List, ℕ, length}
-use Rattle.llama_main.specs.Talk.{IsTalking, room, Wrote}
+use Rattle.llama_main.specs.Session.{IsReady, room, Wrote}
 use Rattle.llama_main.proofs.session.Session.take_piece.Given as goal
 
 abbrev pub invariant-lines : goal.invariant-lines
 invariant-lines g l = record {
-  talking : IsTalking l.self;
+  ready : IsReady l.self;
   within : length l.rest ≤ length l.piece;
   no_more_room : room l.self ≤ room l.fn.self;
   less_room : length l.rest < length l.piece → room l.self < room l.fn.self;

@@ -1,18 +1,18 @@
--- A run that goes on: what it is going to have written.
+-- A run that goes on: what it is running to have written.
 use Rattle.std.specs.Prelude.{◌≡◌, ℕ, ◌+◌, ◌≤◌, List, length}
 use Rattle.lama_model.specs.Script.End.{Whole}
-use Rattle.llama_main.specs.Outlook.{Outcome, behind, outlook_at}
+use Rattle.llama_main.specs.Expected.{Outcome, behind, expected_from}
 use Rattle.lama_model.specs.declared.commands.Command.{Command}
 use Rattle.lama_script.specs.declared.item.Item.{Item}
 use Rattle.lama_script.specs.declared.item.Item.TheVariants.{One}
 use Rattle.llama_main.specs.declared.interpreter.Interpreter.{Interpreter}
 
 -- what will have been written where these lines are still to come
-abbrev pub outlook : Interpreter → List (List ℕ) → Outcome
-outlook i rest = behind i.out.items (outlook_at i.store (i.parser.taken + 1) rest)
+abbrev pub expected_of : Interpreter → List (List ℕ) → Outcome
+expected_of i rest = behind i.out.items (expected_from i.store (i.parser.taken + 1) rest)
 
 -- no line was bad, and each call came from a line
-pub record IsGoing (i : Interpreter) : Type 0 where
+pub record IsRunning (i : Interpreter) : Type 0 where
   pub whole : i.parser.end ≡ Whole
   pub calls : length i.store.journal ≤ i.parser.taken
 

@@ -1,4 +1,4 @@
--- What is foreseen at the start is the outcome, and how it goes on line by line.
+-- What is expected at the start is the outcome, and how it goes on line by line.
 use Rattle.std.proofs.Common.{◌≡◌, ℕ, ◌+◌, ◌<◌, ◌≤◌, Bool, true, false, cond, List, [], ◌∷◌, ◌++◌, length, refl, ap, ◌∙◌, arith}
 use Rattle.std.specs.Prelude.{nat_lt}
 use Rattle.std.proofs.lemmas.List.{append_assoc, length-append}
@@ -20,7 +20,7 @@ use Rattle.lama_model.specs.declared.answers.Reply.{Reply}
 use Rattle.lama_model.specs.declared.answers.Reply.TheVariants.{Accepted, Count, Snapshot, Kept, Refused}
 use Rattle.llama_main.specs.Store.{Held, held_by, called}
 use Rattle.llama_main.proofs.Holding.{held_by-push}
-use Rattle.llama_main.specs.Outlook.{Outcome, outcome, behind, ended, held_after, printed, printed_reading, following, outlook_at}
+use Rattle.llama_main.specs.Expected.{Outcome, outcome, behind, ended, held_after, printed, printed_reading, following, expected_from}
 
 -- a command's entry
 journal_after-held : (journal : List Entry) (c : Command) → held_by (journal_after empty_opening journal 0 c) ≡ held_after (held_by journal) c
@@ -54,45 +54,45 @@ outcome_of-says journal n c s =
     ap (λ (text : List ℕ). let o : Outcome = record { text = text; end = s.end; journal = later.journal } in o) (append_assoc (lines_of empty_opening journal 0 c) later.said last ∙ ap (λ (said : List ℕ). said ++ (later.said ++ last)) (lines_of-printed journal c))
 
 -- one line more, by what it says, where the rest is known
-line-following : (journal : List Entry) (n : ℕ) (rest : List (List ℕ)) (m : Meaning) → ((j : List Entry) → outcome_of j (script_from (n + 1) rest) ≡ outlook_at (held_by j) (n + 1) rest) → outcome_of journal (with_line n m (script_from (n + 1) rest)) ≡ following (held_by journal) n m (λ g. outlook_at g (n + 1) rest)
+line-following : (journal : List Entry) (n : ℕ) (rest : List (List ℕ)) (m : Meaning) → ((j : List Entry) → outcome_of j (script_from (n + 1) rest) ≡ expected_from (held_by j) (n + 1) rest) → outcome_of journal (with_line n m (script_from (n + 1) rest)) ≡ following (held_by journal) n m (λ g. expected_from g (n + 1) rest)
 line-following journal n rest Skipped known = known journal
 line-following journal n rest Bad known = refl
 line-following journal n rest (Says c) known =
-    outcome_of-says journal n c (script_from (n + 1) rest) ∙ ap (behind (printed (held_by journal) c)) (known (journal_after empty_opening journal 0 c) ∙ ap (λ (h : Held). outlook_at h (n + 1) rest) (journal_after-held journal c))
+    outcome_of-says journal n c (script_from (n + 1) rest) ∙ ap (behind (printed (held_by journal) c)) (known (journal_after empty_opening journal 0 c) ∙ ap (λ (h : Held). expected_from h (n + 1) rest) (journal_after-held journal c))
 
 choice : (journal : List Entry) (b : Bool) (s : Script) (o : Outcome) → outcome_of journal s ≡ o → outcome_of journal (cond b (record { items = []; end = TooMany }) s) ≡ cond b (ended (held_by journal) TooMany) o
 choice journal true s o h = refl
 choice journal false s o h = h
 
-outlook-script : (journal : List Entry) (n : ℕ) (ls : List (List ℕ)) → outcome_of journal (script_from n ls) ≡ outlook_at (held_by journal) n ls
-unfolding outlook_at
-outlook-script journal n [] = refl
-outlook-script journal n (line ∷ rest) =
-    choice journal (nat_lt 2097152 n) (with_line n (meaning line) (script_from (n + 1) rest)) (following (held_by journal) n (meaning line) (λ g. outlook_at g (n + 1) rest)) (line-following journal n rest (meaning line) (λ j. outlook-script j (n + 1) rest))
+expected_of-script : (journal : List Entry) (n : ℕ) (ls : List (List ℕ)) → outcome_of journal (script_from n ls) ≡ expected_from (held_by journal) n ls
+unfolding expected_from
+expected_of-script journal n [] = refl
+expected_of-script journal n (line ∷ rest) =
+    choice journal (nat_lt 2097152 n) (with_line n (meaning line) (script_from (n + 1) rest)) (following (held_by journal) n (meaning line) (λ g. expected_from g (n + 1) rest)) (line-following journal n rest (meaning line) (λ j. expected_of-script j (n + 1) rest))
 
--- what is foreseen before anything came is the outcome
-pub outcome-outlook : (bytes : List ℕ) → outcome empty_opening bytes ≡ outlook_at (held_by []) 1 (lines bytes)
+-- what is expected before anything came is the outcome
+pub outcome-expected_of : (bytes : List ℕ) → outcome empty_opening bytes ≡ expected_from (held_by []) 1 (lines bytes)
 unfolding text standing
-outcome-outlook bytes = outlook-script [] 1 (lines bytes)
+outcome-expected_of bytes = expected_of-script [] 1 (lines bytes)
 
 -- the next line, where it is one of those that are taken
-pub outlook_at-line : (h : Held) (n : ℕ) (line : List ℕ) (rest : List (List ℕ)) → n ≤ 2097152 → outlook_at h n (line ∷ rest) ≡ following h n (meaning line) (λ g. outlook_at g (n + 1) rest)
-unfolding outlook_at
-outlook_at-line h n line rest few =
+pub expected_from-line : (h : Held) (n : ℕ) (line : List ℕ) (rest : List (List ℕ)) → n ≤ 2097152 → expected_from h n (line ∷ rest) ≡ following h n (meaning line) (λ g. expected_from g (n + 1) rest)
+unfolding expected_from
+expected_from-line h n line rest few =
     let test : nat_lt 2097152 n ≡ false = grind (arith, nat_tests) in
-    ap (λ (b : Bool). cond b (ended h TooMany) (following h n (meaning line) (λ g. outlook_at g (n + 1) rest))) test
+    ap (λ (b : Bool). cond b (ended h TooMany) (following h n (meaning line) (λ g. expected_from g (n + 1) rest))) test
 
 -- a line past the last one that is taken
-pub outlook_at-many : (h : Held) (n : ℕ) (line : List ℕ) (rest : List (List ℕ)) → 2097152 < n → outlook_at h n (line ∷ rest) ≡ ended h TooMany
-unfolding outlook_at
-outlook_at-many h n line rest many =
+pub expected_from-many : (h : Held) (n : ℕ) (line : List ℕ) (rest : List (List ℕ)) → 2097152 < n → expected_from h n (line ∷ rest) ≡ ended h TooMany
+unfolding expected_from
+expected_from-many h n line rest many =
     let test : nat_lt 2097152 n ≡ true = grind (arith, nat_tests) in
-    ap (λ (b : Bool). cond b (ended h TooMany) (following h n (meaning line) (λ g. outlook_at g (n + 1) rest))) test
+    ap (λ (b : Bool). cond b (ended h TooMany) (following h n (meaning line) (λ g. expected_from g (n + 1) rest))) test
 
 -- no line
-pub outlook_at-nil : (h : Held) (n : ℕ) → outlook_at h n [] ≡ ended h Whole
-unfolding outlook_at
-outlook_at-nil h n = refl
+pub expected_from-nil : (h : Held) (n : ℕ) → expected_from h n [] ≡ ended h Whole
+unfolding expected_from
+expected_from-nil h n = refl
 
 -- a line that is too long says nothing good
 pub meaning-long : (line : List ℕ) → 1024 < length line → meaning line ≡ Bad

@@ -10,12 +10,12 @@ use Rattle.llama_main.specs.declared.stop.Stop.TheVariants.{BadLine, TooManyLine
 use Rattle.llama_main.specs.declared.status.Status.{Status}
 use Rattle.llama_main.specs.declared.status.Status.TheVariants as statuses
 use Rattle.llama_main.specs.declared.session.Session.{Session}
-use Rattle.llama_main.specs.Outlook.{Outcome, journal_of}
+use Rattle.llama_main.specs.Expected.{Outcome, journal_of}
 use Rattle.llama_main.specs.Stops.{Gave, Appends, HasEnded, StopsAt, IsFront}
 use Rattle.llama_main.specs.Ending.{IsText, IsSettled}
-use Rattle.llama_main.specs.Talk.{foreseen, Wrote}
+use Rattle.llama_main.specs.Session.{expected, Wrote}
 
--- what was read and written so far, and what is foreseen now
+-- what was read and written so far, and what is expected now
 pub record Reached (left left' written written' : Option (List ℕ)) (old new : Session) : Type 0 where
   pub given : List ℕ
   pub gave : Gave left left' given
@@ -27,11 +27,11 @@ whole_of journal said = record { text = said ++ last_line (length journal) Whole
 
 -- what an answer says of the script
 abbrev pub Says : Option (List ℕ) → Option (List ℕ) → Session → List ℕ → List ℕ → List Entry → Result (Unit {0}) Stop → Type 0
-Says left left' old given said journal (Ok done) = HasEnded left left' × (foreseen old given ≡ whole_of journal said)
-Says left left' old given said journal (Err stop) = (HasEnded left left' × StopsAt stop said journal (foreseen old given)) ⊎ ((more : List ℕ) → StopsAt stop said journal (foreseen old (given ++ more)))
+Says left left' old given said journal (Ok done) = HasEnded left left' × (expected old given ≡ whole_of journal said)
+Says left left' old given said journal (Err stop) = (HasEnded left left' × StopsAt stop said journal (expected old given)) ⊎ ((more : List ℕ) → StopsAt stop said journal (expected old (given ++ more)))
 
 -- what was read and written before an answer, with what is gathered
-pub record Heard (left left' written written' : Option (List ℕ)) (old : Session) (out : List ℕ) (journal : List Entry) (answer : Result (Unit {0}) Stop) : Type 0 where
+pub record HasRead (left left' written written' : Option (List ℕ)) (old : Session) (out : List ℕ) (journal : List Entry) (answer : Result (Unit {0}) Stop) : Type 0 where
   pub given : List ℕ
   pub said : List ℕ
   pub gave : Gave left left' given

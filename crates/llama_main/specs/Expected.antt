@@ -1,4 +1,4 @@
--- What a run is going to have written, seen from a moment of it. The calls so far are known by what they leave.
+-- What a run is running to have written, seen from a moment of it. The calls so far are known by what they leave.
 use Rattle.std.specs.Prelude.{ℕ, ◌+◌, nat_lt, if◌then◌else◌, List, [], ◌∷◌, ◌++◌, length}
 use Rattle.lama_model.specs.Opening.{Opening, empty_opening}
 use Rattle.lama_model.specs.Journal.{reply_at, graph_of}
@@ -72,10 +72,10 @@ following h n (Says c) rest = behind (printed h c) (rest (held_after h c))
 following h n Bad rest = ended h (BadAt n)
 
 -- the lines from the one of number n on
-unfoldable pub outlook_at : Held → ℕ → List (List ℕ) → Outcome
-outlook_at h n [] = ended h Whole
-outlook_at h n (line ∷ rest) =
-    if nat_lt 2097152 n then ended h TooMany else following h n (meaning line) (λ g. outlook_at g (n + 1) rest)
+unfoldable pub expected_from : Held → ℕ → List (List ℕ) → Outcome
+expected_from h n [] = ended h Whole
+expected_from h n (line ∷ rest) =
+    if nat_lt 2097152 n then ended h TooMany else following h n (meaning line) (λ g. expected_from g (n + 1) rest)
 
 -- a command that the plain store answers
 abbrev pub IsPlain : Command → Type 0

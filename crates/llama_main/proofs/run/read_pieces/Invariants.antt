@@ -1,12 +1,12 @@
 use Rattle.std.proofs.Common.{◌<◌, ◌≤◌, ◌^◌}
-use Rattle.llama_main.specs.Talk.{IsTalking, room}
-use Rattle.llama_main.specs.Hearing.{Reached}
-use Rattle.llama_main.proofs.run.converse.Given as goal
+use Rattle.llama_main.specs.Session.{IsReady, room}
+use Rattle.llama_main.specs.Run.{Reached}
+use Rattle.llama_main.proofs.run.read_pieces.Given as goal
 
 abbrev pub invariant-pieces : goal.invariant-pieces
 invariant-pieces g l = record {
   reached : Reached (g.S.Source.left l.fn.source) (g.S.Source.left l.source) (g.K.Sink.written l.fn.sink) (g.K.Sink.written l.sink) l.fn.session l.session;
-  talking : IsTalking l.session;
+  ready : IsReady l.session;
   read_steady : g.S.Source.faults l.fn.source ≤ g.S.Source.faults l.source;
   write_steady : g.K.Sink.faults l.fn.sink ≤ g.K.Sink.faults l.sink;
   read_bounded : g.S.Source.faults l.fn.source < 2 ^ 64 → g.S.Source.faults l.source < 2 ^ 64;
