@@ -56,20 +56,20 @@ lines_of o journal caller (Reads at what) =
     reading_lines o (journal_after o journal caller (Reads at what)) (Reads at what) what (reply o journal (look_of at))
 
 -- what was printed, and the journal
-pub record Told : Type 0 where
-  pub said : List ℕ
+pub record Transcript : Type 0 where
+  pub printed : List ℕ
   pub journal : List Entry
 
 -- the items one after another, made after the journal
-abbrev pub tell : Opening → List Entry → List Item → Told
-tell o journal [] = record { said = []; journal = journal }
-tell o journal (One c ∷ items) =
-    let rest = tell o (journal_after o journal 0 c) items in
-    record { said = lines_of o journal 0 c ++ rest.said; journal = rest.journal }
+abbrev pub transcript_from : Opening → List Entry → List Item → Transcript
+transcript_from o journal [] = record { printed = []; journal = journal }
+transcript_from o journal (One c ∷ items) =
+    let rest = transcript_from o (journal_after o journal 0 c) items in
+    record { printed = lines_of o journal 0 c ++ rest.printed; journal = rest.journal }
 
 -- the text of a script that was read so
 abbrev pub text_of : Opening → List Entry → Script → List ℕ
-text_of o journal s = let told = tell o journal s.items in told.said ++ last_line (length told.journal) s.end
+text_of o journal s = let whole = transcript_from o journal s.items in whole.printed ++ last_line (length whole.journal) s.end
 
 -- the text of the script's bytes
 unfoldable pub text : Opening → List ℕ → List ℕ

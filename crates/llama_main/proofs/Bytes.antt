@@ -4,7 +4,7 @@ use Rattle.std.proofs.lemmas.List.{append-nil, take-append-drop, take_all, lengt
 use Rattle.std.specs.Prelude.{IfSome}
 use Rattle.std.proofs.Math.Seq.{take-add}
 use Rattle.lama_base.specs.Bytes.{Takes, Gives}
-use Rattle.llama_main.specs.Stops.{IsFront, Appends, Gave, HasEnded}
+use Rattle.llama_main.specs.Streams.{IsFront, Appends, Gave, HasEnded}
 
 -- nothing was written
 pub Appends-none : (w : Option (List ℕ)) → Appends w w []

@@ -1,26 +1,25 @@
 -- What is expected at the start is the outcome, and how it goes on line by line.
 use Rattle.std.proofs.Common.{◌≡◌, ℕ, ◌+◌, ◌<◌, ◌≤◌, Bool, true, false, cond, List, [], ◌∷◌, ◌++◌, length, refl, ap, ◌∙◌, arith}
 use Rattle.std.specs.Prelude.{nat_lt}
-use Rattle.std.proofs.lemmas.List.{append_assoc, length-append}
-use Rattle.std.proofs.lemmas.List.Sums.{fold-append}
+use Rattle.std.proofs.lemmas.List.{append_assoc}
 use Rattle.std.proofs.lemmas.Bool.Decides.{nat_tests}
 use Rattle.lama_model.specs.Opening.{empty_opening}
-use Rattle.lama_model.specs.Journal.{Standing, standing, after, begun, reply}
+use Rattle.lama_model.specs.Journal.{standing, reply}
 use Rattle.lama_model.specs.Script.{Meaning, Script, meaning, meaning_of_words, words, without_return, script_from, lines, with_line}
 use Rattle.lama_model.specs.Script.Meaning.{Skipped, Says, Bad}
 use Rattle.lama_model.specs.Script.End.{Whole, TooMany}
 use Rattle.lama_model.specs.Lines.{last_line}
-use Rattle.lama_model.specs.Text.{tell, text, text_of, entry, journal_after, lines_of, reading_lines, look_of}
-use Rattle.lama_model.specs.declared.calls.Call.{Call}
+use Rattle.lama_model.specs.Text.{transcript_from, text, text_of, journal_after, lines_of, reading_lines, look_of}
 use Rattle.lama_model.specs.declared.calls.Entry.{Entry}
 use Rattle.lama_model.specs.declared.commands.Command.{Command}
 use Rattle.lama_model.specs.declared.commands.Command.TheVariants.{Write as Writes, Checkpoint as Checkpoints, Read as Reads}
 use Rattle.lama_model.specs.declared.commands.Read.{Read}
 use Rattle.lama_model.specs.declared.answers.Reply.{Reply}
 use Rattle.lama_model.specs.declared.answers.Reply.TheVariants.{Accepted, Count, Snapshot, Kept, Refused}
-use Rattle.llama_main.specs.Store.{Held, held_by, called}
+use Rattle.llama_main.specs.Store.{Held, held_by}
 use Rattle.llama_main.proofs.Holding.{held_by-push}
-use Rattle.llama_main.specs.Expected.{Outcome, outcome, behind, ended, held_after, printed, printed_reading, following, expected_from}
+use Rattle.llama_main.specs.Outcome.{Outcome, outcome}
+use Rattle.llama_main.specs.Expected.{behind, ended, held_after, printed, printed_reading, following, expected_from}
 
 -- a command's entry
 journal_after-held : (journal : List Entry) (c : Command) → held_by (journal_after empty_opening journal 0 c) ≡ held_after (held_by journal) c
@@ -44,14 +43,14 @@ lines_of-printed journal (Reads at what) =
 
 -- the outcome of a script that was read so, after a journal
 abbrev outcome_of : List Entry → Script → Outcome
-outcome_of journal s = record { text = text_of empty_opening journal s; end = s.end; journal = (tell empty_opening journal s.items).journal }
+outcome_of journal s = record { text = text_of empty_opening journal s; end = s.end; journal = (transcript_from empty_opening journal s.items).journal }
 
 -- the same text before the rest, grouped the other way
 outcome_of-says : (journal : List Entry) (n : ℕ) (c : Command) (s : Script) → outcome_of journal (with_line n (Says c) s) ≡ behind (printed (held_by journal) c) (outcome_of (journal_after empty_opening journal 0 c) s)
 outcome_of-says journal n c s =
-    let later = tell empty_opening (journal_after empty_opening journal 0 c) s.items in
+    let later = transcript_from empty_opening (journal_after empty_opening journal 0 c) s.items in
     let last = last_line (length later.journal) s.end in
-    ap (λ (text : List ℕ). let o : Outcome = record { text = text; end = s.end; journal = later.journal } in o) (append_assoc (lines_of empty_opening journal 0 c) later.said last ∙ ap (λ (said : List ℕ). said ++ (later.said ++ last)) (lines_of-printed journal c))
+    ap (λ (text : List ℕ). let o : Outcome = record { text = text; end = s.end; journal = later.journal } in o) (append_assoc (lines_of empty_opening journal 0 c) later.printed last ∙ ap (λ (said : List ℕ). said ++ (later.printed ++ last)) (lines_of-printed journal c))
 
 -- one line more, by what it says, where the rest is known
 line-following : (journal : List Entry) (n : ℕ) (rest : List (List ℕ)) (m : Meaning) → ((j : List Entry) → outcome_of j (script_from (n + 1) rest) ≡ expected_from (held_by j) (n + 1) rest) → outcome_of journal (with_line n m (script_from (n + 1) rest)) ≡ following (held_by journal) n m (λ g. expected_from g (n + 1) rest)

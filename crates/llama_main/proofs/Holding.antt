@@ -1,10 +1,9 @@
 -- What a call on the store's book leaves, and what a look finds.
-use Rattle.std.proofs.Common.{◌≡◌, ◌≢◌, ◌∙◌, ℕ, ◌+◌, ◌-◌, ◌<◌, ◌≤◌, List, [], ◌∷◌, ◌++◌, length, get_or, refl, sym, ap, subst, arith, Option, Some, None}
+use Rattle.std.proofs.Common.{◌≡◌, ◌≢◌, ◌∙◌, ℕ, ◌-◌, ◌≤◌, List, [], ◌∷◌, ◌++◌, length, get_or, refl, sym, ap, subst, arith, Option, Some, None}
 use Rattle.std.specs.Prelude.{MatchOption}
-use Rattle.std.proofs.lemmas.List.{length-append}
 use Rattle.std.proofs.lemmas.List.Sums.{fold-append}
 use Rattle.lama_model.specs.Row.{AreRowsOf}
-use Rattle.lama_model.specs.Opening.{Opening, empty_opening}
+use Rattle.lama_model.specs.Opening.{empty_opening}
 use Rattle.lama_model.specs.Journal.{Standing, standing, after, begun, newest_of, graph_of, reply_at}
 use Rattle.lama_model.specs.Text.{entry}
 use Rattle.lama_model.specs.declared.calls.Call.{Call}

@@ -4,7 +4,7 @@ use Rattle.std.specs.List.{slice_split, onto_first, AllByRecursion}
 use Rattle.std.proofs.lemmas.List.Elements.{recursion_from_All}
 use Rattle.std.proofs.lemmas.List.Splits.{slice_split_at, slice_split_none, slice_split-cons_no, length-slice_split}
 use Rattle.lama_model.specs.Script.{lines, is_line_feed, without_empty_last}
-use Rattle.llama_main.specs.Stops.{HasNoFeed}
+use Rattle.llama_main.specs.Stop.{HasNoFeed}
 
 parts_after : (part : List ℕ) (parts : List (List ℕ)) → 0 < length parts → without_empty_last (part ∷ parts) ≡ part ∷ without_empty_last parts
 parts_after part [] h = absurd (omega arith)

@@ -14,8 +14,9 @@ use Rattle.lama_script.specs.declared.item.ScriptFault.{ScriptFault}
 use Rattle.lama_script.specs.declared.item.ScriptFault.TheVariants.{BadLine, TooLong, NoMemory}
 use Rattle.lama_script.specs.Parsing.{Parsing, line_answer, line_answer_at, answer_to, after_answer}
 use Rattle.llama_main.specs.Store.{Held}
-use Rattle.llama_main.specs.Expected.{Outcome, behind, printed, held_after, following, expected_from}
-use Rattle.llama_main.specs.Stops.{last_of}
+use Rattle.llama_main.specs.Outcome.{Outcome}
+use Rattle.llama_main.specs.Expected.{behind, printed, held_after, following, expected_from}
+use Rattle.llama_main.specs.Stop.{last_of}
 use Rattle.llama_main.specs.Interpreter.{command_in, expected_of}
 use Rattle.llama_main.specs.declared.interpreter.Interpreter.{Interpreter}
 use Rattle.llama_main.proofs.Expectations.{expected_from-line, expected_from-many}

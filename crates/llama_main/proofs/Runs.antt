@@ -14,8 +14,10 @@ use Rattle.llama_main.specs.declared.stop.Stop.TheVariants.{BadLine, TooManyLine
 use Rattle.llama_main.specs.declared.status.Status.{Status}
 use Rattle.llama_main.specs.declared.status.Status.TheVariants as statuses
 use Rattle.llama_main.specs.declared.session.Session.{Session}
-use Rattle.llama_main.specs.Expected.{Outcome, outcome, journal_of, behind, expected_from}
-use Rattle.llama_main.specs.Stops.{IsFront, Appends, Gave, HasEnded, StopsAt, last_of}
+use Rattle.llama_main.specs.Outcome.{Outcome, outcome, journal_of}
+use Rattle.llama_main.specs.Expected.{behind, expected_from}
+use Rattle.llama_main.specs.Streams.{IsFront, Appends, Gave, HasEnded}
+use Rattle.llama_main.specs.Stop.{StopsAt, last_of}
 use Rattle.llama_main.specs.Interpreter.{expected_of}
 use Rattle.llama_main.specs.Session.{expected, Wrote, Stopped}
 use Rattle.llama_main.specs.Ending.{last_text, IsText, IsSettled}

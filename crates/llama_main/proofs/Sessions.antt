@@ -11,8 +11,10 @@ use Rattle.llama_main.specs.declared.stop.Stop.{Stop}
 use Rattle.llama_main.specs.declared.stop.Stop.TheVariants.{BadLine, TooManyLines, ReadFault, WriteFault, NoMemory}
 use Rattle.llama_main.specs.declared.session.Session.{Session}
 use Rattle.llama_main.specs.declared.interpreter.Interpreter.{Interpreter}
-use Rattle.llama_main.specs.Expected.{Outcome, behind}
-use Rattle.llama_main.specs.Stops.{Appends, StopsAt, HasNoFeed, last_of}
+use Rattle.llama_main.specs.Outcome.{Outcome}
+use Rattle.llama_main.specs.Expected.{behind}
+use Rattle.llama_main.specs.Streams.{Appends}
+use Rattle.llama_main.specs.Stop.{StopsAt, HasNoFeed, last_of}
 use Rattle.llama_main.specs.Interpreter.{expected_of}
 use Rattle.llama_main.specs.Session.{expected, Wrote, Stopped}
 use Rattle.llama_main.proofs.Bytes.{Appends-none, Appends-append}

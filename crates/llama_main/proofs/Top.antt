@@ -9,11 +9,11 @@ use Rattle.lama_model.specs.declared.calls.Entry.{Entry}
 use Rattle.lama_model.specs.Lines.{usage_line}
 use Rattle.llama_main.specs.declared.status.Status.{Status}
 use Rattle.llama_main.specs.declared.status.Status.TheVariants as statuses
-use Rattle.llama_main.specs.Stops.{IsFront, Appends, Gave, HasEnded}
+use Rattle.llama_main.specs.Streams.{IsFront, Appends, Gave, HasEnded}
 use Rattle.llama_main.specs.Ending.{end_of, HasBook, IsCut, IsOutside, Exchanges, IsText, IsSettled}
 use Rattle.lama_book.specs.Book.{Book}
 use Rattle.lama_book.specs.Relation.{IsBookOf}
-use Rattle.llama_main.specs.Expected.{journal_of}
+use Rattle.llama_main.specs.Outcome.{journal_of}
 use Rattle.llama_main.specs.Run.{Ran, RanWith, Fits}
 use Rattle.llama_main.specs.Words.{text_under, AreRefused}
 use Rattle.llama_main.proofs.Bytes.{Gave-none}

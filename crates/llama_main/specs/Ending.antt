@@ -9,8 +9,8 @@ use Rattle.llama_main.specs.declared.status.Status.{Status}
 use Rattle.llama_main.specs.declared.status.Status.TheVariants.{Done, Usage, BadLine, ReadFault, WriteFault, NoMemory, TooManyLines}
 use Rattle.lama_book.specs.Book.{Book}
 use Rattle.lama_book.specs.Relation.{IsBookOf}
-use Rattle.llama_main.specs.Expected.{outcome, journal_of}
-use Rattle.llama_main.specs.Stops.{Appends, Gave, HasEnded}
+use Rattle.llama_main.specs.Outcome.{outcome, journal_of}
+use Rattle.llama_main.specs.Streams.{Appends, Gave, HasEnded}
 
 -- the exit status of the program
 abbrev pub code_of : Status → ℕ

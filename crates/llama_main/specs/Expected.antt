@@ -1,15 +1,14 @@
 -- What a run is running to have written, seen from a moment of it. The calls so far are known by what they leave.
 use Rattle.std.specs.Prelude.{ℕ, ◌+◌, nat_lt, if◌then◌else◌, List, [], ◌∷◌, ◌++◌, length}
-use Rattle.lama_model.specs.Opening.{Opening, empty_opening}
+use Rattle.lama_model.specs.Opening.{empty_opening}
 use Rattle.lama_model.specs.Journal.{reply_at, graph_of}
-use Rattle.lama_model.specs.Script.{End, Meaning, script, meaning}
+use Rattle.lama_model.specs.Script.{End, Meaning, meaning}
 use Rattle.lama_model.specs.Script.End.{Whole, BadAt, TooMany}
 use Rattle.lama_model.specs.Script.Meaning.{Skipped, Says, Bad}
 use Rattle.lama_model.specs.Lines.{reply_line, last_line}
-use Rattle.lama_model.specs.Text.{text, tell, look_of, read_lines}
+use Rattle.lama_model.specs.Text.{look_of, read_lines}
 use Rattle.lama_model.specs.declared.calls.Write.TheVariants.{Vertices, Add, Remove, Weigh}
 use Rattle.lama_model.specs.declared.calls.Call.{Call}
-use Rattle.lama_model.specs.declared.calls.Entry.{Entry}
 use Rattle.lama_model.specs.declared.calls.Call.TheVariants.{Write as WriteCall, Checkpoint}
 use Rattle.lama_model.specs.declared.commands.Command.{Command}
 use Rattle.lama_model.specs.declared.commands.Command.TheVariants.{Write as Writes, Checkpoint as Checkpoints, Read as Reads}
@@ -17,20 +16,7 @@ use Rattle.lama_model.specs.declared.commands.Read.{Read}
 use Rattle.lama_model.specs.declared.answers.Reply.{Reply}
 use Rattle.lama_model.specs.declared.answers.Reply.TheVariants.{Accepted, Count, Snapshot, Kept, Refused}
 use Rattle.llama_main.specs.Store.{Held, called}
-
--- a text, how the script ends, and the journal
-pub record Outcome : Type 0 where
-  pub text : List ℕ
-  pub end : End
-  pub journal : List Entry
-
--- the journal of the script's bytes
-abbrev pub journal_of : Opening → List ℕ → List Entry
-journal_of o bytes = (tell o [] (script bytes).items).journal
-
--- the outcome of a script of these bytes
-abbrev pub outcome : Opening → List ℕ → Outcome
-outcome o bytes = record { text = text o bytes; end = (script bytes).end; journal = journal_of o bytes }
+use Rattle.llama_main.specs.Outcome.{Outcome}
 
 -- the same with these bytes written before it
 abbrev pub behind : List ℕ → Outcome → Outcome

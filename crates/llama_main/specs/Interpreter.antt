@@ -1,7 +1,8 @@
 -- A run that goes on: what it is running to have written.
 use Rattle.std.specs.Prelude.{◌≡◌, ℕ, ◌+◌, ◌≤◌, List, length}
 use Rattle.lama_model.specs.Script.End.{Whole}
-use Rattle.llama_main.specs.Expected.{Outcome, behind, expected_from}
+use Rattle.llama_main.specs.Outcome.{Outcome}
+use Rattle.llama_main.specs.Expected.{behind, expected_from}
 use Rattle.lama_model.specs.declared.commands.Command.{Command}
 use Rattle.lama_script.specs.declared.item.Item.{Item}
 use Rattle.lama_script.specs.declared.item.Item.TheVariants.{One}

@@ -1,6 +1,8 @@
 pub mod Store
 pub mod Expected
-pub mod Stops
+pub mod Stop
+pub mod Streams
+pub mod Outcome
 pub mod Interpreter
 pub mod Session
 pub mod Ending

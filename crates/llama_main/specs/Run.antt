@@ -10,8 +10,9 @@ use Rattle.llama_main.specs.declared.stop.Stop.TheVariants.{BadLine, TooManyLine
 use Rattle.llama_main.specs.declared.status.Status.{Status}
 use Rattle.llama_main.specs.declared.status.Status.TheVariants as statuses
 use Rattle.llama_main.specs.declared.session.Session.{Session}
-use Rattle.llama_main.specs.Expected.{Outcome, journal_of}
-use Rattle.llama_main.specs.Stops.{Gave, Appends, HasEnded, StopsAt, IsFront}
+use Rattle.llama_main.specs.Outcome.{Outcome, journal_of}
+use Rattle.llama_main.specs.Streams.{Gave, Appends, HasEnded, IsFront}
+use Rattle.llama_main.specs.Stop.{StopsAt}
 use Rattle.llama_main.specs.Ending.{IsText, IsSettled}
 use Rattle.llama_main.specs.Session.{expected, Wrote}
 

@@ -2,8 +2,10 @@
 use Rattle.std.specs.Prelude.{◌≡◌, ℕ, ◌-◌, ◌*◌, ◌≤◌, List, ◌++◌, length, Option}
 use Rattle.lama_model.specs.Script.{lines}
 use Rattle.lama_model.specs.declared.calls.Entry.{Entry}
-use Rattle.llama_main.specs.Expected.{Outcome, behind}
-use Rattle.llama_main.specs.Stops.{Appends, StopsAt, HasNoFeed}
+use Rattle.llama_main.specs.Outcome.{Outcome}
+use Rattle.llama_main.specs.Expected.{behind}
+use Rattle.llama_main.specs.Streams.{Appends}
+use Rattle.llama_main.specs.Stop.{StopsAt, HasNoFeed}
 use Rattle.llama_main.specs.Interpreter.{expected_of, IsRunning}
 use Rattle.llama_main.specs.declared.stop.Stop.{Stop}
 use Rattle.llama_main.specs.declared.session.Session.{Session}

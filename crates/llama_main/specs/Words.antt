@@ -5,7 +5,7 @@ use Rattle.lama_model.specs.Text.{text}
 use Rattle.lama_model.specs.Lines.{usage_line}
 use Rattle.llama_main.specs.declared.status.Status.{Status}
 use Rattle.llama_main.specs.declared.status.Status.TheVariants.{Usage, WriteFault, NoMemory}
-use Rattle.llama_main.specs.Stops.{IsFront, Appends}
+use Rattle.llama_main.specs.Streams.{IsFront, Appends}
 
 -- the words are in the grammar: there are none
 abbrev pub AreInGrammar : {A : Type 0} → List A → Type 0

@@ -8,7 +8,7 @@ ghost use Rattle.lama_model.specs.Text.{read_lines};
 ghost use Rattle.lama_model.specs.declared.commands.Read.TheVariants.{Row};
 ghost use Rattle.llama_main.specs.Store.{held_by};
 ghost use Rattle.llama_main.specs.Expected.{IsPlain, held_after, printed, expected_from};
-ghost use Rattle.llama_main.specs.Stops.{StopsAt, IsOfScript};
+ghost use Rattle.llama_main.specs.Stop.{StopsAt, IsOfScript};
 ghost use Rattle.llama_main.specs.Interpreter.{expected_of, IsRunning, command_in};
 
 use crate::stop::Stop;

@@ -3,7 +3,7 @@
 ghost use Rattle.std.specs.Prelude.{◌≡◌, ◌<◌, ◌≤◌, ◌^◌, ◌⊎◌, [], ◌++◌, ℕ, List, OnOk, OnErr, Err, None, IsSome, MatchOption, length, decimal, codes};
 ghost use Rattle.lama_base.specs.Faults.{Rose};
 ghost use Rattle.lama_model.specs.Lines.{usage_line};
-ghost use Rattle.llama_main.specs.Stops.{IsFront, Appends};
+ghost use Rattle.llama_main.specs.Streams.{IsFront, Appends};
 ghost use Rattle.llama_main.specs.Ending.{last_text, end_of, HasBook};
 ghost use Rattle.lama_model.specs.Opening.{empty_opening};
 ghost use Rattle.lama_book.specs.Relation.{IsBookOf};

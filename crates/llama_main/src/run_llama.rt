@@ -3,7 +3,7 @@
 ghost use Rattle.std.specs.Prelude.{◌≡◌, [], IfSome};
 ghost use Rattle.lama_base.specs.Faults.{Rose};
 ghost use Rattle.lama_model.specs.Lines.{usage_line};
-ghost use Rattle.llama_main.specs.Stops.{IsFront, Appends, HasEnded};
+ghost use Rattle.llama_main.specs.Streams.{IsFront, Appends, HasEnded};
 ghost use Rattle.llama_main.specs.Ending.{end_of, IsCut, IsOutside, Exchanges, HasBook, IsText, IsSettled};
 ghost use Rattle.llama_main.specs.Run.{Ran};
 ghost use Rattle.llama_main.specs.Words.{AreInGrammar, text_under, AreRefused};

@@ -4,8 +4,8 @@ ghost use Rattle.std.specs.Prelude.{◌≡◌, ◌<◌, ◌≤◌, ◌^◌, [], 
 ghost use Rattle.lama_base.specs.Faults.{Rose};
 ghost use Rattle.lama_model.specs.Opening.{empty_opening};
 ghost use Rattle.lama_book.specs.Relation.{IsBookOf};
-ghost use Rattle.llama_main.specs.Expected.{outcome};
-ghost use Rattle.llama_main.specs.Stops.{StopsAt, IsOfScript, HasNoFeed};
+ghost use Rattle.llama_main.specs.Outcome.{outcome};
+ghost use Rattle.llama_main.specs.Stop.{StopsAt, IsOfScript, HasNoFeed};
 ghost use Rattle.llama_main.specs.Session.{expected, IsReady, room, Wrote, Stopped};
 
 use crate::interpreter::Interpreter;

@@ -2,7 +2,7 @@
 
 ghost use Rattle.std.specs.Prelude.{◌≡◌, ◌<◌, ◌≤◌, ◌^◌, [], List, ℕ, ◌++◌, ◌⊎◌, IfOk, IfErr, OnOk, OnErr, Err, length, take};
 ghost use Rattle.lama_base.specs.Faults.{Rose};
-ghost use Rattle.llama_main.specs.Stops.{IsFront, Appends};
+ghost use Rattle.llama_main.specs.Streams.{IsFront, Appends};
 
 use crate::stop::Stop;
 use lama_base::{Sink, SinkFault};

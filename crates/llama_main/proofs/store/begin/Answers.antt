@@ -1,6 +1,4 @@
-use Rattle.std.proofs.Common.{[]}
 use Rattle.std.proofs.lemmas.List.Elements.{All-nil}
-use Rattle.lama_base.specs.declared.Edge.{Edge}
 use Rattle.lama_model.specs.Graph.{no_graph}
 use Rattle.lama_model.specs.Opening.{empty_opening}
 use Rattle.llama_main.proofs.store.begin.Goals as goal

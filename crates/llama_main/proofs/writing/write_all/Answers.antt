@@ -1,5 +1,5 @@
 use Rattle.std.proofs.Common.{take, arith, sym, subst, List, ℕ, Option, length-drop}
-use Rattle.llama_main.specs.Stops.{Appends}
+use Rattle.llama_main.specs.Streams.{Appends}
 use Rattle.llama_main.proofs.Bytes.{Appends-takes, IsFront-take}
 use Rattle.llama_main.proofs.writing.write_all.Goals as goal
 

@@ -1,5 +1,5 @@
 use Rattle.std.proofs.Common.{◌<◌, ◌≤◌, ◌-◌, ◌^◌, length, take}
-use Rattle.llama_main.specs.Stops.{Appends}
+use Rattle.llama_main.specs.Streams.{Appends}
 use Rattle.llama_main.proofs.writing.write_all.Given as goal
 
 abbrev pub invariant-loop-written : goal.invariant-loop-written

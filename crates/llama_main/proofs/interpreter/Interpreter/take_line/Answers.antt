@@ -7,8 +7,8 @@ use Rattle.llama_main.proofs.interpreter.Interpreter.take_line.Goals as goal
 
 pub run-requires-clause-plain : goal.run-requires-clause-plain
 run-requires-clause-plain c =
-    let told = answered_item c.args.self.now.parser c.args.line.now c.line.result c.in-Ok-Some.item c.requires.whole c.line.ensures.answer (c.in-Ok-Some.is ∙ ap Ok c.in-Ok-Some.field-0-is) in
-    IsPlain-said c.args.line.now (command_in c.in-Ok-Some.item) told.says
+    let found = answered_item c.args.self.now.parser c.args.line.now c.line.result c.in-Ok-Some.item c.requires.whole c.line.ensures.answer (c.in-Ok-Some.is ∙ ap Ok c.in-Ok-Some.field-0-is) in
+    IsPlain-said c.args.line.now (command_in c.in-Ok-Some.item) found.says
 
 pub returns-in-Ok-None-clause-ok : goal.returns-in-Ok-None-clause-ok
 returns-in-Ok-None-clause-ok c = λ rest.
@@ -20,8 +20,8 @@ returns-in-Ok-clause-ok c = λ rest.
 
 pub returns-in-Err-BadLine-clause-err : goal.returns-in-Err-BadLine-clause-err
 returns-in-Err-BadLine-clause-err c = λ rest.
-    let told = answered_bad c.args.self.now.parser c.args.line.now c.line.result c.in-Err-BadLine.line c.requires.whole c.line.ensures.answer (c.in-Err-BadLine.is ∙ ap Err c.in-Err-BadLine.field-0-is) in
-    expected_bad c.args.self.now.store _ c.in-Err-BadLine.line c.args.self.now.out.items c.args.line.now rest told
+    let found = answered_bad c.args.self.now.parser c.args.line.now c.line.result c.in-Err-BadLine.line c.requires.whole c.line.ensures.answer (c.in-Err-BadLine.is ∙ ap Err c.in-Err-BadLine.field-0-is) in
+    expected_bad c.args.self.now.store _ c.in-Err-BadLine.line c.args.self.now.out.items c.args.line.now rest found
 
 pub returns-in-Err-TooLong-clause-err : goal.returns-in-Err-TooLong-clause-err
 returns-in-Err-TooLong-clause-err c = λ rest.

@@ -4,7 +4,7 @@ use Rattle.std.proofs.lemmas.List.Elements.{All-append}
 use Rattle.lama_model.specs.Script.{lines, is_line_feed}
 use Rattle.lama_model.specs.Script.End.{BadAt}
 use Rattle.llama_main.specs.Interpreter.{expected_of}
-use Rattle.llama_main.specs.Stops.{last_of}
+use Rattle.llama_main.specs.Stop.{last_of}
 use Rattle.llama_main.proofs.Sessions.{some_list, expected_of-many, expected_of-long}
 use Rattle.llama_main.proofs.session.Session.hold.Goals as goal
 

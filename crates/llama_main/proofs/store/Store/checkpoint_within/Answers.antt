@@ -1,8 +1,5 @@
-use Rattle.std.proofs.Common.{◌≡◌, ◌∙◌, ap, sym, [], ◌∷◌, ◌++◌}
-use Rattle.std.specs.Arc.{arc_value}
-use Rattle.lama_model.specs.declared.calls.Call.TheVariants.{Write as WriteCall, Checkpoint, Look, LookAt}
-use Rattle.llama_main.specs.Store.{held_by}
-use Rattle.llama_main.proofs.Holding.{holds, look-reply, look-found, look_at-found}
+use Rattle.lama_model.specs.declared.calls.Call.TheVariants.{Checkpoint}
+use Rattle.llama_main.proofs.Holding.{holds}
 use Rattle.llama_main.proofs.store.Store.checkpoint_within.Goals as goal
 
 pub returns-clause-after : goal.returns-clause-after

@@ -1,11 +1,11 @@
-use Rattle.std.proofs.Common.{◌≡◌, ◌∙◌, ap, sym, [], ◌∷◌, ◌++◌}
+use Rattle.std.proofs.Common.{◌∙◌, ap}
 use Rattle.std.specs.Arc.{arc_value}
-use Rattle.lama_model.specs.declared.calls.Call.TheVariants.{Write as WriteCall, Checkpoint, Look, LookAt}
+use Rattle.lama_model.specs.declared.calls.Call.TheVariants.{Look}
 use Rattle.lama_model.specs.Opening.{empty_opening}
 use Rattle.lama_model.specs.Journal.{reply_at}
 use Rattle.lama_snapshot.specs.Snap.{Snap}
-use Rattle.llama_main.specs.Store.{Held, held_by}
-use Rattle.llama_main.proofs.Holding.{holds, look-reply, look-found, look_at-found}
+use Rattle.llama_main.specs.Store.{Held}
+use Rattle.llama_main.proofs.Holding.{holds, look-reply, look-found}
 use Rattle.llama_main.proofs.store.Store.look_newest.Goals as goal
 
 pub returns-clause-reply : goal.returns-clause-reply

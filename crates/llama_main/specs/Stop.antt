@@ -1,28 +1,13 @@
 -- Why a run stops, and what that says of the script.
-use Rattle.std.specs.Prelude.{◌≡◌, ℕ, false, List, [], ◌++◌, All, Option, IfSome, Some}
+use Rattle.std.specs.Prelude.{◌≡◌, ℕ, false, List, ◌++◌, All}
 use Rattle.lama_model.specs.Script.{End, is_line_feed}
 use Rattle.lama_model.specs.Script.End.{BadAt, TooMany}
 use Rattle.lama_model.specs.Lines.{last_line}
+use Rattle.llama_main.specs.Streams.{IsFront}
 use Rattle.lama_model.specs.declared.calls.Entry.{Entry}
-use Rattle.llama_main.specs.Expected.{Outcome}
+use Rattle.llama_main.specs.Outcome.{Outcome}
 use Rattle.llama_main.specs.declared.stop.Stop.{Stop}
 use Rattle.llama_main.specs.declared.stop.Stop.TheVariants.{BadLine, TooManyLines, ReadFault, WriteFault, NoMemory}
-
--- the bytes are a front of the text
-abbrev pub IsFront : List ℕ → List ℕ → Type 0
-IsFront front text = (rest : List ℕ) × (text ≡ front ++ rest)
-
--- the sink took the piece, where it tells that
-abbrev pub Appends : Option (List ℕ) → Option (List ℕ) → List ℕ → Type 0
-Appends before now piece = IfSome before (λ written. now ≡ Some (written ++ piece))
-
--- the source gave the piece, where it tells that
-abbrev pub Gave : Option (List ℕ) → Option (List ℕ) → List ℕ → Type 0
-Gave before now piece = IfSome before (λ left. (rest : List ℕ) × (now ≡ Some rest) × (left ≡ piece ++ rest))
-
--- the source has nothing left now, where it tells that
-abbrev pub HasEnded : Option (List ℕ) → Option (List ℕ) → Type 0
-HasEnded before now = IfSome before (λ left. now ≡ Some [])
 
 -- the last line says that the script ends so, after these calls
 abbrev pub last_of : List ℕ → List Entry → End → Outcome
