@@ -15,9 +15,11 @@ use crate::stop::Stop;
 use crate::store::Store;
 use lama_book::Looked;
 use lama_model::{Refusal, Reply, Rows};
+use lama_pages::Steps;
 use lama_script::{Command, Item, Parser, Read, ScriptFault, print_reply, print_row};
 use lama_snapshot::Snapshot;
 use std::alloc::{AllocError, Global};
+use std::sync::ledger::Ledger;
 
 /// Takes the lines of one script, one after another.
 #[derive(Drop)]
@@ -30,13 +32,13 @@ pub struct Interpreter {
 
 impl Interpreter {
     /// Before the first line.
-    pub fn new(alloc: Global) -> Result<Interpreter, AllocError>
+    pub fn new<L: Ledger>(alloc: Global, pages: &mut Steps<L>) -> Result<Interpreter, AllocError>
         ensures start { IfOk result (λ i. (rest : List (List ℕ)) → expected_of i rest ≡ expected_from (held_by []) 1 rest) }
         ensures running { IfOk result (λ i. IsRunning i) }
         ensures none { IfOk result (λ i. i.out.items ≡ []) }
     {
         Ok(Interpreter {
-            store: Store::new(alloc)?,
+            store: Store::new(alloc, pages)?,
             parser: Parser::plain(),
             out: Vec::new(alloc),
         })
@@ -65,7 +67,7 @@ impl Interpreter {
     }
 
     /// Does what the line says, which was given without its line feed, and gathers what it prints.
-    pub fn take_line(&mut self, line: &[u8]) -> Result<(), Stop>
+    pub fn take_line<L: Ledger>(&mut self, line: &[u8], pages: &mut Steps<L>) -> Result<(), Stop>
         requires { IsRunning self.old }
         ensures ok { OnOk result ((rest : List (List ℕ)) → expected_of self.old (line.now ∷ rest) ≡ expected_of self.new rest) }
         ensures running { OnOk result (IsRunning self.new) }
@@ -76,7 +78,7 @@ impl Interpreter {
     {
         match self.parser.line(line) {
             Ok(None) => Ok(()),
-            Ok(Some(item)) => match self.run(item) {
+            Ok(Some(item)) => match self.run(item, pages) {
                 Ok(()) => Ok(()),
                 Err(_) => Err(Stop::NoMemory),
             },
@@ -87,7 +89,7 @@ impl Interpreter {
     }
 
     /// Does an item and gathers what it prints.
-    fn run(&mut self, item: Item) -> Result<(), AllocError>
+    fn run<L: Ledger>(&mut self, item: Item, pages: &mut Steps<L>) -> Result<(), AllocError>
         requires room { length self.old.store.journal < 4194304 }
         requires plain { IsPlain (command_in item) }
         ensures parser { self.new.parser ≡ self.old.parser }
@@ -96,12 +98,12 @@ impl Interpreter {
         ensures err { OnErr result (self.new.out.items ≡ self.old.out.items) }
     {
         match item {
-            Item::One(command) => self.obey(&command),
+            Item::One(command) => self.obey(&command, pages),
         }
     }
 
     /// Makes the command's call and gathers what it prints.
-    fn obey(&mut self, command: &Command) -> Result<(), AllocError>
+    fn obey<L: Ledger>(&mut self, command: &Command, pages: &mut Steps<L>) -> Result<(), AllocError>
         requires room { length self.old.store.journal < 4194304 }
         requires plain { IsPlain command.now }
         ensures parser { self.new.parser ≡ self.old.parser }
@@ -115,7 +117,7 @@ impl Interpreter {
                 print_reply(&mut self.out, command, &reply)
             }
             Command::Checkpoint => {
-                let reply = self.store.checkpoint()?;
+                let reply = self.store.checkpoint(pages)?;
                 print_reply(&mut self.out, command, &reply)
             }
             Command::Read { at, what } => {

@@ -16,18 +16,21 @@ use crate::stop::Stop;
 use crate::writing::flush;
 use lama_base::{Sink, Source};
 use lama_book::Book;
+use lama_pages::Steps;
 use lama_script::print_numbered;
 use std::alloc::{AllocError, Global};
+use std::sync::ledger::Ledger;
 
 /// So many bytes are read at a time.
 const PIECE: usize = 65_536;
 
 /// Reads the script to its end or to where it stops. Answers are written before each read.
-fn read_pieces<S: Source, K: Sink>(
+fn read_pieces<S: Source, K: Sink, L: Ledger>(
     source: &mut S,
     sink: &mut K,
     session: &mut Session,
     buf: &mut [u8],
+    pages: &mut Steps<L>,
 ) -> Result<(), Stop>
     requires ready { IsReady session.old }
     requires room { 0 < length buf.old }
@@ -49,9 +52,9 @@ fn read_pieces<S: Source, K: Sink>(
             Err(_) => return Err(Stop::ReadFault),
         };
         if n == 0 {
-            return session.take_last();
+            return session.take_last(pages);
         }
-        match session.take_piece(sink, &buf[..n]) {
+        match session.take_piece(sink, &buf[..n], pages) {
             Ok(()) => {}
             Err(stop) => return Err(stop),
         }
@@ -93,11 +96,12 @@ fn conclude<K: Sink>(sink: &mut K, out: &mut Vec<u8>, calls: u32, status: Status
 }
 
 /// Reads the script of the source to its end or to where it stops.
-fn read_script<S: Source, K: Sink>(
+fn read_script<S: Source, K: Sink, L: Ledger>(
     alloc: Global,
     source: &mut S,
     sink: &mut K,
     session: &mut Session,
+    pages: &mut Steps<L>,
 ) -> Result<(), Stop>
     requires ready { IsReady session.old }
     requires none { session.old.interpreter.out.items ≡ [] }
@@ -108,7 +112,7 @@ fn read_script<S: Source, K: Sink>(
     ensures write_bounded { K.faults sink.old < 2 ^ 64 → K.faults sink.new < 2 ^ 64 }
 {
     match vec![in alloc; 0u8; PIECE] {
-        Ok(mut piece) => read_pieces(source, sink, session, &mut piece),
+        Ok(mut piece) => read_pieces(source, sink, session, &mut piece, pages),
         Err(_) => Err(Stop::NoMemory),
     }
 }
@@ -121,19 +125,24 @@ pub struct Ended {
 }
 
 /// Runs the script of the source.
-pub fn run_script<S: Source, K: Sink>(alloc: Global, source: &mut S, sink: &mut K) -> Ended
+pub fn run_script<S: Source, K: Sink, L: Ledger>(
+    alloc: Global,
+    source: &mut S,
+    sink: &mut K,
+    pages: &mut Steps<L>,
+) -> Ended
     ensures ran { Ran (S.left source.old) (S.left source.new) (K.written sink.old) (K.written sink.new) result.status }
     ensures book { HasBook (S.left source.old) (S.left source.new) (K.written sink.old) (K.written sink.new) result.status result.book }
     ensures read_cause { result.status ≡ Status.ReadFault → Rose (S.faults source.old) (S.faults source.new) }
     ensures write_cause { result.status ≡ Status.WriteFault → Rose (K.faults sink.old) (K.faults sink.new) }
 {
-    let Ok(mut session) = Session::new(alloc) else {
+    let Ok(mut session) = Session::new(alloc, pages) else {
         return Ended {
             status: Status::NoMemory,
             book: None,
         };
     };
-    let answer = read_script(alloc, source, sink, &mut session);
+    let answer = read_script(alloc, source, sink, &mut session, pages);
     let calls = session.interpreter.calls();
     let status = status_after(answer);
     let status = conclude(sink, &mut session.interpreter.out, calls, status);

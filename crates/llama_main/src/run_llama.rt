@@ -20,14 +20,14 @@ use std::sync::ledger::Ledger;
 /// The words are those after the program's name; none at all is the whole grammar so far. The script is
 /// read from the source in large pieces, and its answers are written to the sink before each read, so
 /// that a person at a terminal sees each answer before typing on. Time and memory are linear in the
-/// script and in what it prints. Nothing is asked of the runtime yet, and no page is made.
+/// script and in what it prints. Nothing is asked of the runtime yet.
 pub fn run_lines<R, S: Source, K: Sink, L: Ledger>(
     _rt: &R,
     alloc: Global,
     words: &[String],
     source: &mut S,
     sink: &mut K,
-    _pages: &mut Steps<L>,
+    pages: &mut Steps<L>,
 ) -> RunEnd
     // Words outside the grammar: nothing is read, and the line of usage is written.
     ensures words_outside { (AreInGrammar words.now → ⊥) → IsOutside result.status × (source.new ≡ source.old) }
@@ -47,7 +47,7 @@ pub fn run_lines<R, S: Source, K: Sink, L: Ledger>(
     ensures write_fault { result.status ≡ Status.WriteFault → Rose (K.faults sink.old) (K.faults sink.new) }
     ensures cut_short { IsCut result.status → Exchanges (S.left source.old) (S.left source.new) (K.written sink.old) (K.written sink.new) (λ given taken. IsFront taken (text_under words.now given)) }
 {
-    let Ended { status, book } = run_words(alloc, words, source, sink);
+    let Ended { status, book } = run_words(alloc, words, source, sink, pages);
     RunEnd {
         status,
         book,
@@ -89,11 +89,12 @@ pub fn run_llama<R, S: Source, K: Sink, G: Gate + Sync, L: Ledger>(
 }
 
 /// Runs the script, or refuses the words.
-fn run_words<S: Source, K: Sink>(
+fn run_words<S: Source, K: Sink, L: Ledger>(
     alloc: Global,
     words: &[String],
     source: &mut S,
     sink: &mut K,
+    pages: &mut Steps<L>,
 ) -> Ended
     ensures inside { AreInGrammar words.now → Ran (S.left source.old) (S.left source.new) (K.written sink.old) (K.written sink.new) result.status }
     ensures outside { (AreInGrammar words.now → ⊥) → AreRefused (K.written sink.old) (K.written sink.new) result.status × (source.new ≡ source.old) }
@@ -102,7 +103,7 @@ fn run_words<S: Source, K: Sink>(
     ensures write_fault { result.status ≡ Status.WriteFault → Rose (K.faults sink.old) (K.faults sink.new) }
 {
     if words.is_empty() {
-        run_script(alloc, source, sink)
+        run_script(alloc, source, sink, pages)
     } else {
         Ended {
             status: refuse_words(alloc, sink),

@@ -14,7 +14,9 @@ use crate::writing::flush;
 use lama_base::Sink;
 use lama_base::limits::{MAX_LINE_BYTES, MAX_LINES};
 use lama_book::Book;
+use lama_pages::Steps;
 use std::alloc::{AllocError, Global};
+use std::sync::ledger::Ledger;
 
 /// So many bytes are gathered before they are written while lines are still at hand.
 const GATHERED: usize = 65_536;
@@ -46,13 +48,13 @@ fn line_end(bytes: &[u8]) -> Option<usize>
 
 impl Session {
     /// Before any byte came.
-    pub fn new(alloc: Global) -> Result<Session, AllocError>
+    pub fn new<L: Ledger>(alloc: Global, pages: &mut Steps<L>) -> Result<Session, AllocError>
         ensures start { IfOk result (λ s. (bytes : List ℕ) → outcome empty_opening bytes ≡ expected s bytes) }
         ensures ready { IfOk result (λ s. IsReady s) }
         ensures none { IfOk result (λ s. s.interpreter.out.items ≡ []) }
     {
         Ok(Session {
-            interpreter: Interpreter::new(alloc)?,
+            interpreter: Interpreter::new(alloc, pages)?,
             carry: Vec::new(alloc),
         })
     }
@@ -75,7 +77,7 @@ impl Session {
     }
 
     /// Takes the line that ends with this part, given without its line feed.
-    fn take_part(&mut self, part: &[u8]) -> Result<(), Stop>
+    fn take_part<L: Ledger>(&mut self, part: &[u8], pages: &mut Steps<L>) -> Result<(), Stop>
         requires ready { IsReady self.old }
         requires no_feed { HasNoFeed part.now }
         ensures ok { OnOk result ((more : List ℕ) → expected self.old (part.now ++ 10 ∷ more) ≡ expected self.new more) }
@@ -85,13 +87,13 @@ impl Session {
         ensures cause { IfErr result IsOfScript }
     {
         if self.carry.as_slice().is_empty() {
-            return self.interpreter.take_line(part);
+            return self.interpreter.take_line(part, pages);
         }
         match self.carry.extend_from_slice(part) {
             Ok(()) => {}
             Err(_) => return Err(Stop::NoMemory),
         }
-        let answer = self.interpreter.take_line(&self.carry);
+        let answer = self.interpreter.take_line(&self.carry, pages);
         self.carry.clear();
         answer
     }
@@ -124,7 +126,7 @@ impl Session {
     }
 
     /// Takes the last line, where bytes have come of it, once no more will come.
-    pub fn take_last(&mut self) -> Result<(), Stop>
+    pub fn take_last<L: Ledger>(&mut self, pages: &mut Steps<L>) -> Result<(), Stop>
         requires { IsReady self.old }
         ensures ok { OnOk result (expected self.old [] ≡ expected self.new []) }
         ensures none { OnOk result (self.new.carry.items ≡ []) }
@@ -134,13 +136,18 @@ impl Session {
         if self.carry.as_slice().is_empty() {
             return Ok(());
         }
-        let answer = self.interpreter.take_line(&self.carry);
+        let answer = self.interpreter.take_line(&self.carry, pages);
         self.carry.clear();
         answer
     }
 
     /// Takes the next piece of the script. Gathered answers are written as they grow.
-    pub fn take_piece<K: Sink>(&mut self, sink: &mut K, piece: &[u8]) -> Result<(), Stop>
+    pub fn take_piece<K: Sink, L: Ledger>(
+        &mut self,
+        sink: &mut K,
+        piece: &[u8],
+        pages: &mut Steps<L>,
+    ) -> Result<(), Stop>
         requires { IsReady self.old }
         ensures ok { OnOk result (Wrote (K.written sink.old) (K.written sink.new) self.old self.new piece.now) }
         ensures ready { OnOk result (IsReady self.new) }
@@ -153,7 +160,7 @@ impl Session {
     {
         let mut rest = piece;
         'lines: while let Some((line, after)) = first_line(rest) {
-            match self.take_part(line) {
+            match self.take_part(line, pages) {
                 Ok(()) => {}
                 Err(stop) => return Err(stop),
             }

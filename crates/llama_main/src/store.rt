@@ -15,10 +15,10 @@ use lama_book::{Book, Looked, Opening};
 use lama_model::{PlainRows, Reply, Write};
 use lama_pages::Steps;
 use std::alloc::{AllocError, Global};
-use std::marker::{Brand, Model};
-use std::sync::ledger::{Blank, Ledger};
+use std::marker::Model;
+use std::sync::ledger::Ledger;
 
-/// The calls of a script, answered by a book. A ledger of its own counts the pages of each call.
+/// The calls of a script, answered by a book.
 #[derive(Drop)]
 pub struct Store {
     book: Book,
@@ -38,10 +38,14 @@ impl Model for Store {
 
 impl Store {
     /// A store without vertices, before any call.
-    pub fn new(alloc: Global) -> Result<Store, AllocError>
+    pub fn new<L: Ledger>(alloc: Global, pages: &mut Steps<L>) -> Result<Store, AllocError>
         ensures { IfOk result (λ s. s ≡ held_by []) }
     {
-        begin::<Brand>(alloc, Blank::new(1))
+        let rows = PlainRows::from_edges(alloc, 0, &[])?;
+        let opening = Opening::from_rows(alloc, 0, &rows, pages)?;
+        Ok(Store {
+            book: Book::new(alloc, opening)?,
+        })
     }
 
     /// The book, with the calls so far.
@@ -74,25 +78,12 @@ impl Store {
     }
 
     /// Makes the standing graph the graph of the next number.
-    pub fn checkpoint(&mut self) -> Result<Reply, AllocError>
-        requires room { length self.old.journal < 4194304 }
+    pub fn checkpoint<L: Ledger>(&mut self, pages: &mut Steps<L>) -> Result<Reply, AllocError>
         ensures reply { IfOk result (λ r. r ≡ reply_at empty_opening self.old.standing Checkpoint) }
         ensures after { OnOk result (self.new ≡ called self.old Checkpoint) }
         ensures err { OnErr result (self.new ≡ self.old) }
     {
-        self.checkpoint_within::<Brand>(Blank::new(1))
-    }
-
-    fn checkpoint_within<L: Ledger>(&mut self, blank: Blank) -> Result<Reply, AllocError>
-        requires name { blank.name ≡ L.name }
-        requires parts { blank.parts ≡ L.parts }
-        requires one { blank.parts ≡ 1 }
-        ensures reply { IfOk result (λ r. r ≡ reply_at empty_opening self.old.standing Checkpoint) }
-        ensures after { OnOk result (self.new ≡ called self.old Checkpoint) }
-        ensures err { OnErr result (self.new ≡ self.old) }
-    {
-        let mut pages = Steps::<L>::open(blank);
-        let Ok(reply) = self.book.checkpoint(0, &mut pages) else {
+        let Ok(reply) = self.book.checkpoint(0, pages) else {
             return Err(AllocError);
         };
         Ok(reply)
@@ -140,18 +131,4 @@ impl Store {
         };
         Ok(looked)
     }
-}
-
-fn begin<L: Ledger>(alloc: Global, blank: Blank) -> Result<Store, AllocError>
-    requires name { blank.name ≡ L.name }
-    requires parts { blank.parts ≡ L.parts }
-    requires one { blank.parts ≡ 1 }
-    ensures { IfOk result (λ s. s ≡ held_by []) }
-{
-    let mut pages = Steps::<L>::open(blank);
-    let rows = PlainRows::from_edges(alloc, 0, &[])?;
-    let opening = Opening::from_rows(alloc, 0, &rows, &mut pages)?;
-    Ok(Store {
-        book: Book::new(alloc, opening)?,
-    })
 }

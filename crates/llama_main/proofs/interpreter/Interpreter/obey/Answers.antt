@@ -8,7 +8,7 @@ use Rattle.llama_main.proofs.Reading.{printed-default}
 use Rattle.llama_main.proofs.interpreter.Interpreter.obey.Goals as goal
 
 pub returns-in-None-clause-printed : goal.returns-in-None-clause-printed
-returns-in-None-clause-printed c =
+returns-in-None-clause-printed g c =
     let l = c.in_ok-reply-in-Read.field-0 in
     let none : (k : ℕ) → l.reply ≢ Snapshot k = subst (λ s. MatchOption s ((k : ℕ) → l.reply ≢ Snapshot k) (λ a. IsFound c.look.new.self.standing l.reply (arc_value a))) c.in-None.is c.in_ok-reply-in-Read.ensures.found in
     let same = printed-default c.args.self.now.store c.args.command.now c.in-Read.at c.in-Read.what l.reply c.in-Read.is c.in_ok-reply-in-Read.ensures.reply none in
