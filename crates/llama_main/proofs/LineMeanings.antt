@@ -67,7 +67,7 @@ means_many n line h = cases (nat_lt 2097152 n) refl (meaning line) h
     cases false e (Says c) h = cc
     cases false e Bad h = cc
 
--- the expected_of goes on with the next line
+-- what is expected goes on with the next line
 pub expected_skipped : (h : Held) (n : ℕ) (out line : List ℕ) (rest : List (List ℕ)) → Means n line Skipped → behind out (expected_from h n (line ∷ rest)) ≡ behind out (expected_from h (n + 1) rest)
 expected_skipped h n out line rest t = ap (behind out) (expected_from-line h n line rest t.few ∙ ap (λ (m : Meaning). following h n m (λ g. expected_from g (n + 1) rest)) t.says)
 

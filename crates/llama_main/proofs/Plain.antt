@@ -1,4 +1,4 @@
--- What a line says is a command that the plain store answers.
+-- What a line says is a command that the store takes.
 use Rattle.std.proofs.Common.{◌≡◌, ℕ, Bool, true, false, cond, List, [], ◌∷◌, length, subst, Option, Some, None, option_map, option_and_then}
 use Rattle.std.specs.Prelude.{nat_lt, bytes_eq, codes, IfSome}
 use Rattle.lama_model.specs.Script.{Meaning, meaning, meaning_of_words, said_or_bad, command_of, vertices_command, add_command, add_of, checkpoint_command, read_of, behind_at, reading_of, number, words, without_return, is_comment}

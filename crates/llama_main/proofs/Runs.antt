@@ -1,4 +1,4 @@
--- A conversation over the source and the sink, piece by piece, and what it says of the script.
+-- A run over the source and the sink, piece by piece, and what it says of the script.
 use Rattle.std.proofs.Common.{◌≡◌, ℕ, ◌+◌, ◌<◌, List, [], ◌++◌, length, take, refl, sym, ap, subst, ◌∙◌, Option, Result, Ok, Err, ◌⊎◌, inl, inr}
 use Rattle.std.specs.Prelude.{OnOk, IfErr}
 use Rattle.std.proofs.lemmas.List.{append-nil, append_assoc}
@@ -197,7 +197,7 @@ cut_fits : (l l1 : Option (List ℕ)) (given taken : List ℕ) (journal : List E
 cut_fits l l1 given taken journal result (inl is) front = subst (Fits l l1 given taken journal) (sym is) front
 cut_fits l l1 given taken journal result (inr is) front = subst (Fits l l1 given taken journal) (sym is) front
 
--- a run that concludes what it has_read
+-- a run that concludes what it has read
 pub Ran-concluded : (l l1 w0 w w1 : Option (List ℕ)) (s0 : Session) (out : List ℕ) (journal : List Entry) (answer : Result (Unit {0}) Stop) (status result : Status) → ((bytes : List ℕ) → outcome empty_opening bytes ≡ expected s0 bytes) → HasRead l l1 w0 w s0 out journal answer → status ≡ status_of answer → Ends w w1 out (length journal) status result → RanWith l l1 w0 w1 journal result
 Ran-concluded l l1 w0 w w1 s0 out journal answer status result start has_read is (inl h) = record {
   given = has_read.given;

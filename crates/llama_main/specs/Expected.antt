@@ -1,4 +1,4 @@
--- What a run is running to have written, seen from a moment of it. The calls so far are known by what they leave.
+-- What a run is expected to write, seen from a moment of it. The calls so far are known by what they leave.
 use Rattle.std.specs.Prelude.{ℕ, ◌+◌, nat_lt, if◌then◌else◌, List, [], ◌∷◌, ◌++◌, length}
 use Rattle.lama_model.specs.Opening.{empty_opening}
 use Rattle.lama_model.specs.Journal.{reply_at, graph_of}
@@ -63,7 +63,7 @@ expected_from h n [] = ended h Whole
 expected_from h n (line ∷ rest) =
     if nat_lt 2097152 n then ended h TooMany else following h n (meaning line) (λ g. expected_from g (n + 1) rest)
 
--- a command that the plain store answers
+-- a command that the store takes
 abbrev pub IsPlain : Command → Type 0
 IsPlain (Writes (Vertices n)) = Unit {0}
 IsPlain (Writes (Add u v w)) = Unit {0}

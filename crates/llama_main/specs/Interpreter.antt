@@ -1,4 +1,4 @@
--- A run that goes on: what it is running to have written.
+-- A run between two lines: what it is expected to write.
 use Rattle.std.specs.Prelude.{◌≡◌, ℕ, ◌+◌, ◌≤◌, List, length}
 use Rattle.lama_model.specs.Script.End.{Whole}
 use Rattle.llama_main.specs.Outcome.{Outcome}

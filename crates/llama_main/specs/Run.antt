@@ -1,4 +1,4 @@
--- What a conversation over the source and the sink leaves to be written.
+-- What a run over the source and the sink leaves to be written.
 use Rattle.std.specs.Prelude.{◌≡◌, ◌⊎◌, ℕ, List, ◌++◌, length, Option, Result, Ok, Err}
 use Rattle.lama_model.specs.Opening.{empty_opening}
 use Rattle.lama_model.specs.Script.End.{Whole, BadAt, TooMany}

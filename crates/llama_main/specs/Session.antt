@@ -1,4 +1,4 @@
--- A run between two pieces of its script: what it is running to have written.
+-- A run between two pieces of its script: what it is expected to write.
 use Rattle.std.specs.Prelude.{◌≡◌, ℕ, ◌-◌, ◌*◌, ◌≤◌, List, ◌++◌, length, Option}
 use Rattle.lama_model.specs.Script.{lines}
 use Rattle.lama_model.specs.declared.calls.Entry.{Entry}
