@@ -1,6 +1,9 @@
-//! Marks of edges: columns of properties, with a value for each slot of a level's edge table, kept beside the table.
+//! What a level keeps beside each slot of its edge table: a mark that says from which snapshot on the edge is deleted,
+//! and the edge's weight.
 #![tactic(auto)]
 
+mod hidden;
 mod weights;
 
+pub use hidden::Hidden;
 pub use weights::Weights;

@@ -1,4 +1,5 @@
-ghost use Rattle.std.specs.Prelude.{◌≡◌, ◌+◌, ◌/◌, ◌<◌, ◌≤◌, IfOk, OnOk, length, slice_index};
+ghost use Rattle.std.specs.Prelude.{◌≡◌, ◌+◌, ◌/◌, ◌<◌, ◌≤◌, All, IfOk, OnOk, length, slice_index};
+ghost use Rattle.lama_marks.specs.Places.{AreWritten};
 
 use lama_array::VArray;
 use lama_pages::Steps;
@@ -9,7 +10,8 @@ use std::sync::ledger::Ledger;
 /// One version of the property column of a level: the weight of each slot of its edge table, by the slot's place. A
 /// contract sees it as the list of the weights.
 ///
-/// It never changes. Its pages, one for each 256 weights, are shared by all that come from it by `share`.
+/// It never changes. It shares its pages, one for each 256 weights, with all that come from it by `share`, and with
+/// those that come from it by `with` each page that is not touched.
 #[derive(Drop)]
 pub struct Weights {
     weights: VArray<u64>,
@@ -67,6 +69,29 @@ impl Weights {
             weights: self.weights.share()?,
         })
     }
+
+    /// The version with a new weight at each of these places, given as (place, weight). Where a place comes more than
+    /// once, its last weight counts.
+    ///
+    /// Costs the places, and a pointer for each page of the version; a page is copied at the first place in it. The
+    /// only error is want of memory.
+    pub fn with<L: Ledger>(
+        &self,
+        places: &[(u32, u64)],
+        pages: &mut Steps<L>,
+    ) -> Result<Weights, AllocError>
+        requires { All (λ p. p.0 < length self.now) places.now }
+        ensures weights { IfOk result (λ column. AreWritten places.now self.now column) }
+        ensures made { pages.new ≤ pages.old + length places.now }
+    {
+        let mut weights = self.weights.edit()?;
+        for &(place, weight) in places {
+            weights.set(place, weight, pages)?;
+        }
+        Ok(Weights {
+            weights: weights.freeze()?,
+        })
+    }
 }
 
 #[cfg(test)]
@@ -113,6 +138,44 @@ mod tests {
     {
         let mut pages = Steps::<L>::open(blank);
         two_pages(alloc, &mut pages)
+    }
+
+    // 300 times the weight 4, and that with new weights. It takes five pages at most.
+    fn three_written<L: Ledger>(
+        alloc: Global,
+        pages: &mut Steps<L>,
+    ) -> Result<(Weights, Weights), AllocError>
+        ensures old { IfOk result (λ both. length both.0 ≡ 300) }
+        ensures new { IfOk result (λ both. length both.1 ≡ 300) }
+        ensures made { pages.new ≤ pages.old + 5 }
+    {
+        let old = Weights::build(alloc, &[4; 300], pages)?;
+        let new = old.with(&[(0, 5), (299, 6), (0, 4_294_967_296)], pages)?;
+        Ok((old, new))
+    }
+
+    fn three_written_counted<L: Ledger>(
+        alloc: Global,
+        blank: Blank,
+    ) -> Result<(Weights, Weights), AllocError>
+        requires name { blank.name ≡ L.name }
+        requires parts { blank.parts ≡ L.parts }
+        requires one { blank.parts ≡ 1 }
+        ensures old { IfOk result (λ both. length both.0 ≡ 300) }
+        ensures new { IfOk result (λ both. length both.1 ≡ 300) }
+    {
+        let mut pages = Steps::<L>::open(blank);
+        three_written(alloc, &mut pages)
+    }
+
+    #[test]
+    fn new_weights_stand_in_the_new_version_alone(rt: HostRuntime) -> Result<(), Fail> {
+        let (old, new) = three_written_counted::<Brand>(rt.alloc(), Blank::new(1))?;
+        for (place, weight) in [(0, 4_294_967_296), (1, 4), (298, 4), (299, 6)] {
+            assert_eq!(rt; old.weight(place), 4);
+            assert_eq!(rt; new.weight(place), weight);
+        }
+        Ok(())
     }
 
     #[test]
