@@ -1,27 +1,26 @@
 -- What the calls on a book do, step by step.
 use Rattle.std.proofs.Common.{◌≡◌, ◌∙◌, ℕ, ◌+◌, ◌-◌, ◌<◌, ◌≤◌, List, [], ◌∷◌, ◌++◌, length, map, get_or, Bool, true, false, cond, leb, ltb, ◌||◌, refl, sym, ap, subst, arith, inl, inr, ◌⊎◌}
-use Rattle.std.specs.Prelude.{sum_by}
+use Rattle.std.specs.Prelude.{All, sum_by}
 use Rattle.std.proofs.lemmas.Bool.Decides.{nat_tests}
 use Rattle.std.specs.Arc.{arc_value}
 use Rattle.std.specs.declared.sync.Arc.{Arc}
 use Rattle.std.proofs.Common.{Global}
 use Rattle.lama_snapshot.specs.declared.snapshot.Snapshot.{Snapshot as Kept_snapshot}
-use Rattle.std.proofs.lemmas.List.{length-append, length-map, get_or-map}
-use Rattle.std.proofs.lemmas.List.Elements.{All-push, All-weaker, filter_map-append}
+use Rattle.std.proofs.lemmas.List.{length-map, get_or-map}
+use Rattle.std.proofs.lemmas.List.Elements.{All-push}
+use Rattle.std.proofs.lemmas.List.Sums.{sum_by_push}
 use Rattle.lama_model.specs.Graph.{no_graph, IsNamedBelow}
-use Rattle.lama_base.specs.declared.Edge.{Edge}
 use Rattle.lama_model.specs.Row.{row_at, edges_in, graph_of_rows}
 use Rattle.lama_model.specs.Change.{RowChange, Change, change_to, row_after}
-use Rattle.lama_model.specs.Bounds.{added_edges}
-use Rattle.lama_model.specs.Fits.{Fits}
-use Rattle.lama_delta.specs.Seen.{IsSeenChange}
-use Rattle.lama_delta.proofs.Adds.{changed_rows-adds, additions-change, ends-additions}
-use Rattle.lama_delta.proofs.Counted.{additions-counted}
-use Rattle.lama_snapshot.proofs.Limits.{fits-adds}
+use Rattle.lama_model.specs.Bounds.{added_edges, killed_edges}
+use Rattle.lama_model.specs.Fits.{Fits, HasIndexes}
+use Rattle.lama_delta.specs.EdgeWrites.{edge_writes}
+use Rattle.lama_delta.specs.RowWrites.{changes_below}
+use Rattle.lama_delta.proofs.Effects.{changed_rows-graph}
+use Rattle.lama_delta.proofs.Counted.{added-counted, old-counted, indexes-of}
 use Rattle.lama_model.specs.Opening.{Opening, opening_of}
 use Rattle.lama_model.specs.Journal.{newest_of, reply, reply_at, is_accepted, edges_added}
 use Rattle.lama_model.specs.declared.calls.Write.{Write}
-use Rattle.lama_model.specs.declared.calls.Write.TheVariants.{Vertices, Add, Remove, Weigh}
 use Rattle.lama_model.specs.declared.calls.Call.{Call}
 use Rattle.lama_model.specs.declared.calls.Call.TheVariants.{Write as Writes, Checkpoint, LookAt}
 use Rattle.lama_model.specs.declared.calls.Entry.{Entry}
@@ -30,7 +29,6 @@ use Rattle.lama_model.specs.declared.answers.Reply.TheVariants.{Accepted, Count,
 use Rattle.lama_model.specs.declared.answers.Refusal.{Refusal}
 use Rattle.lama_model.specs.declared.answers.Refusal.TheVariants.{FullKept, FullNumbers, NoSnapshot}
 use Rattle.lama_model.proofs.StandingLemmas.{Meets, accepted_write, named-more, effect-count}
-use Rattle.lama_delta.specs.Pending.{IsAddition, addition, additions, HasEndsBelow}
 use Rattle.lama_snapshot.specs.Snap.{Snap}
 use Rattle.lama_book.specs.Book.{Book, no_snap, brief, answers, newest_number, last_snap, with_write, next_change, IsWhole, IsRoomier, HasEntry, HasNext, HasCheckpoint, IsNext}
 use Rattle.lama_book.specs.Relation.{IsBookOf}
@@ -98,24 +96,18 @@ pub write-meets : (b : Book) (w : Write) → b.count ≤ 4194304 → b.added ≤
 unfolding reply_at
 write-meets b w few many accepted = accepted_write (brief b.count b.added b.oldest) w few many accepted
 
-additions-push : (ws : List Write) (w : Write) → IsAddition w → length (additions (ws ++ w ∷ [])) ≡ length (additions ws) + edges_added w
-additions-push ws w is = ap length (filter_map-append addition ws (w ∷ [])) ∙ (length-append (additions ws) (additions (w ∷ [])) ∙ by w is)
-  where
-    by : (w : Write) → IsAddition w → length (additions ws) + length (additions (w ∷ [])) ≡ length (additions ws) + edges_added w
-    by (Vertices n) is = refl
-    by (Add u v x) is = refl
-    by (Remove u v) is = absurd is
-    by (Weigh u v x) is = absurd is
+adds-push : (ws : List Write) (w : Write) → sum_by edges_added (ws ++ w ∷ []) ≡ sum_by edges_added ws + edges_added w
+adds-push ws w = sum_by_push edges_added ws w
 
 -- and the book with it is whole
-pub write-whole : (b : Book) (w : Write) (journal : List Entry) (spare : ℕ) → IsWhole b → IsAddition w → is_accepted (answers b (Writes w)) ≡ true → length journal ≤ 4194304 →
+pub write-whole : (b : Book) (w : Write) (journal : List Entry) (spare : ℕ) → IsWhole b → is_accepted (answers b (Writes w)) ≡ true → length journal ≤ 4194304 →
     (let n : Book = record (with_write b w) { journal = journal; spare = spare } in IsWhole n)
-write-whole b w journal spare h is accepted calls =
+write-whole b w journal spare h accepted calls =
     let m = write-meets b w h.few_vertices h.few_added accepted in
     let up = effect-count w (record { count = b.count; edges = [] }) in
     let grows = h.grows in
     let room = h.room in
-    let more = additions-push b.pending w is in
+    let more = adds-push b.pending w in
     record {
       few_calls = calls;
       some_kept = h.some_kept;
@@ -123,7 +115,6 @@ write-whole b w journal spare h is accepted calls =
       number = h.number;
       few_vertices = m.vertices;
       few_added = m.edges;
-      only_adds = All-push IsAddition b.pending w h.only_adds is;
       named = named-more b.count (with_write b w).count (b.pending ++ w ∷ []) up (All-push (IsNamedBelow b.count) b.pending w h.named m.named);
       last = h.last;
       grows = omega (arith, grows, up);
@@ -144,22 +135,37 @@ next-entry a b c e n h =
       spare = omega (arith, x, y);
     }
 
--- the change of the pending writes adds as many edges as they do
-pub next-added : (b : Book) → IsWhole b → added_edges (next_change b) ≡ length (additions b.pending)
-next-added b h =
-    ap (λ rs. sum_by (λ (r : RowChange). length r.added) rs) (changed_rows-adds (graph_of_rows (last_snap b).rows) b.pending b.count h.only_adds)
-    ∙ additions-counted (additions b.pending) b.count (All-weaker (HasEndsBelow b.count) (λ (e : Edge). e.source < b.count) (λ e h. h.0) (additions b.pending) (ends-additions b.count b.pending h.named))
+-- the rows of the change of the pending writes
+next-rows-are : (b : Book) → (next_change b).rows ≡ changes_below (last_snap b).rows (edge_writes b.pending) b.count
+next-rows-are b = changed_rows-graph (last_snap b).rows b.pending b.count
+
+-- it adds no more edges than they do
+pub next-added : (b : Book) → added_edges (next_change b) ≤ sum_by edges_added b.pending
+next-added b =
+    let a = ap (sum_by (λ (r : RowChange). length r.added)) (next-rows-are b) in
+    let n = added-counted (last_snap b).rows b.pending b.count in
+    omega (arith, a, n)
 
 -- and fits the newest snapshot
 pub next-fits : (b : Book) → IsWhole b → newest_number b < 100000000 → Fits (last_snap b).number (last_snap b).rows (next_change b)
 next-fits b h few =
-    let seen : IsSeenChange (next_change b) = additions-change (additions b.pending) (newest_number b + 1) b.count (next_change b).rows (ends-additions b.count b.pending h.named) (changed_rows-adds (graph_of_rows (last_snap b).rows) b.pending b.count h.only_adds) in
+    let k = ap (sum_by (λ (r : RowChange). length r.killed)) (next-rows-are b) in
+    let s = ap (sum_by (λ (r : RowChange). length r.set)) (next-rows-are b) in
+    let old = old-counted (last_snap b).rows (edge_writes b.pending) b.count in
     let last = h.last in
     let room = h.room in
     let most = h.few_added in
-    let added = next-added b h in
+    let added = next-added b in
     let some = h.some_kept in
-    fits-adds (last_snap b).number (last_snap b).rows (next_change b) seen (omega (arith, last)) (omega (arith, few)) h.grows h.few_vertices (omega (arith, room, most, added))
+    record {
+      next = omega (arith, last);
+      limit = omega (arith, few);
+      grows = h.grows;
+      vertices = h.few_vertices;
+      indexes = subst (All (HasIndexes (last_snap b).rows)) (sym (next-rows-are b)) (indexes-of (last_snap b).rows (edge_writes b.pending) b.count);
+      edges = omega (arith, room, most, added);
+      touched = omega (arith, room, most, added, k, s, old);
+    }
 
 -- what an apply answers, of the snapshot x and the change w
 pub record IsApplied (s x : Snap) (w : Change) : Type 0 where
@@ -168,13 +174,13 @@ pub record IsApplied (s x : Snap) (w : Change) : Type 0 where
   pub rows : (v : ℕ) → v < w.count → row_at s.rows v ≡ row_after w.rows v (row_at x.rows v)
   pub base : s.base ≡ x.base
   pub changes : s.changes ≡ x.changes ++ w ∷ []
-  pub edges : edges_in s.rows ≡ edges_in x.rows + added_edges w
+  pub edges : edges_in s.rows + killed_edges w ≡ edges_in x.rows + added_edges w
 
-pub next-from : (b : Book) (s x : Snap) (w : Change) → IsWhole b → x ≡ last_snap b → w ≡ next_change b → IsApplied s x w → IsNext b s
-next-from b s x w whole is change applied =
+pub next-from : (b : Book) (s x : Snap) (w : Change) → x ≡ last_snap b → w ≡ next_change b → IsApplied s x w → IsNext b s
+next-from b s x w is change applied =
     let P : Snap × Change → Type 0 = λ p. IsApplied s p.0 p.1 in
     let a : IsApplied s (last_snap b) (next_change b) = subst P (λ j. (is j, change j)) applied in
-    let added = next-added b whole in
+    let added = next-added b in
     let edges = a.edges in
     record { number = a.number; count = a.count; rows = a.rows; base = a.base; changes = a.changes; edges = omega (arith, edges, added) }
 

@@ -17,8 +17,7 @@ use Rattle.lama_model.specs.declared.calls.Entry.{Entry}
 use Rattle.lama_model.proofs.ChangeLaw.{change_law}
 use Rattle.lama_model.proofs.StandingLemmas.{standing-keeps, standing-push, standing-step, IsStanding, is_standing, graph_of-new}
 use Rattle.lama_model.proofs.JournalLaws.{extends-done, graph_of-extends, change_of-extends}
-use Rattle.lama_delta.specs.Pending.{IsAddition}
-use Rattle.lama_delta.proofs.Adds.{changed_rows-adds}
+use Rattle.lama_delta.proofs.Effects.{changed_rows-are, changed_rows-graph}
 use Rattle.lama_snapshot.specs.BaseRows.{Numbered}
 use Rattle.lama_snapshot.specs.Snap as snap
 use Rattle.lama_snapshot.specs.Snap.{Snap, change_at}
@@ -89,31 +88,36 @@ change-new o s st =
     ap (λ b. cond b (opening_change o (n + 1)) (change_between (graph_of o t (n + 1 - 1)) (get_or (s.written ++ s.pending ∷ []) (n + 1 - last_number o - 1) []) (n + 1))) past
     ∙ (ap (λ h. change_between h (get_or (s.written ++ s.pending ∷ []) (n + 1 - last_number o - 1) []) (n + 1)) g ∙ ap (λ x. change_between (graph_of o s n) x (n + 1)) ws)
 
+-- the pending writes change the rows as they change the graph
+rows-changed : (b : Book) (g : Graph) → AreRowsOf (last_snap b).rows g → IsGraph g → changed_rows (graph_of_rows (last_snap b).rows) b.pending b.count ≡ changed_rows g b.pending b.count
+rows-changed b g of is =
+    changed_rows-graph (last_snap b).rows b.pending b.count ∙ sym (changed_rows-are g (last_snap b).rows (λ u. sym (row-everywhere (last_snap b).rows g u of is)) b.pending b.count)
+
 -- the change that the book makes is that of the journal
-next-is : (o : Opening) (b : Book) (g : Graph) (s : Standing) → All IsAddition b.pending → b.pending ≡ s.pending → b.count ≡ s.graph.count → s.graph ≡ graph_after s.pending g → newest_number b ≡ newest_of o s → next_change b ≡ change_between g s.pending (newest_of o s + 1)
-next-is o b g s adds pending count stands n =
-    let rows : changed_rows (graph_of_rows (last_snap b).rows) b.pending b.count ≡ changed_rows g b.pending b.count = changed_rows-adds (graph_of_rows (last_snap b).rows) b.pending b.count adds ∙ sym (changed_rows-adds g b.pending b.count adds) in
+next-is : (o : Opening) (b : Book) (g : Graph) (s : Standing) → AreRowsOf (last_snap b).rows g → IsGraph g → b.pending ≡ s.pending → b.count ≡ s.graph.count → s.graph ≡ graph_after s.pending g → newest_number b ≡ newest_of o s → next_change b ≡ change_between g s.pending (newest_of o s + 1)
+next-is o b g s of is pending count stands n =
+    let rows = rows-changed b g of is in
     let c : b.count ≡ (graph_after s.pending g).count = count ∙ ap (λ (h : Graph). h.count) stands in
     ap (λ rs. let x : Change = record { number = newest_number b + 1; count = b.count; rows = rs } in x) rows
     ∙ (ap (λ ws. change_to g ws (newest_number b + 1) b.count) pending
     ∙ (ap (λ m. change_to g s.pending (m + 1) b.count) n ∙ ap (λ m. change_to g s.pending (newest_of o s + 1) m) c))
 
 -- the rows of the next snapshot are those of the standing graph
-next-rows : (b : Book) (x : Snap) (g : Graph) (s : Standing) → All IsAddition b.pending → IsNext b x → b.pending ≡ s.pending → b.count ≡ s.graph.count → s.graph ≡ graph_after s.pending g → AreRowsOf (last_snap b).rows g → IsGraph g → AreRowsOf x.rows s.graph
-next-rows b x g s adds next pending count stands of is = record {
+next-rows : (b : Book) (x : Snap) (g : Graph) (s : Standing) → IsNext b x → b.pending ≡ s.pending → b.count ≡ s.graph.count → s.graph ≡ graph_after s.pending g → AreRowsOf (last_snap b).rows g → IsGraph g → AreRowsOf x.rows s.graph
+next-rows b x g s next pending count stands of is = record {
   count = next.count ∙ count;
   each = λ v lt. (let below : v < b.count = omega (arith, lt, count) in
       next.rows v below
-      ∙ (ap (λ rs. row_after rs v (row_at (last_snap b).rows v)) (changed_rows-adds (graph_of_rows (last_snap b).rows) b.pending b.count adds ∙ sym (changed_rows-adds g b.pending b.count adds))
+      ∙ (ap (λ rs. row_after rs v (row_at (last_snap b).rows v)) (rows-changed b g of is)
       ∙ (ap (row_after (changed_rows g b.pending b.count) v) (row-everywhere (last_snap b).rows g v of is)
       ∙ (change_law g b.pending b.count v below
       ∙ (ap (λ ws. row (graph_after ws g) v) pending ∙ ap (λ h. row h v) (sym stands))))));
 }
 
 -- the next snapshot is that of the next number
-next-snapshot : (o : Opening) (b : Book) (x : Snap) (s : Standing) → IsSound o s → IsOpening o → s.installed ≡ [] → All IsAddition b.pending → IsNext b x → b.pending ≡ s.pending → b.count ≡ s.graph.count → newest_number b ≡ newest_of o s →
+next-snapshot : (o : Opening) (b : Book) (x : Snap) (s : Standing) → IsSound o s → IsOpening o → s.installed ≡ [] → IsNext b x → b.pending ≡ s.pending → b.count ≡ s.graph.count → newest_number b ≡ newest_of o s →
     IsSnapshotOf o s (newest_of o s) (last_snap b) → IsSnapshotOf o (done Checkpoint s) (newest_of o s + 1) x
-next-snapshot o b x s sd is none adds next pending count n old =
+next-snapshot o b x s sd is none next pending count n old =
     let t = done Checkpoint s in
     let m = newest_of o s in
     let g = graph_of o s m in
@@ -125,7 +129,7 @@ next-snapshot o b x s sd is none adds next pending count n old =
     let root : snap.floor_of x ≡ floor_of o s m = ap (λ (y : Numbered). y.number) next.base ∙ old.floor in
     record {
       number = next.number ∙ ap (λ k. k + 1) n;
-      rows = subst (AreRowsOf x.rows) (sym (graph_of-new o s s.graph)) (next-rows b x g s adds next pending count sd.is.stands old.rows (graph-is o s m is sd (omega arith)));
+      rows = subst (AreRowsOf x.rows) (sym (graph_of-new o s s.graph)) (next-rows b x g s next pending count sd.is.stands old.rows (graph-is o s m is sd (omega arith)));
       floor = root ∙ f;
       base = subst (λ i. AreRowsOf x.base.rows (graph_of o t i)) f (subst (AreRowsOf x.base.rows) (sym (graph_of-extends o s t ext (floor_of o s m) (omega (arith, len)))) (subst (λ (y : Numbered). AreRowsOf y.rows (graph_of o s (floor_of o s m))) base old.base));
       len = omega (arith, len, size, f);
@@ -151,11 +155,11 @@ next-snapshot o b x s sd is none adds next pending count n old =
         let this : j ≡ newest_of o s + 1 = omega (arith, high, ge) in
         at j
         ∙ (get_or_push (last_snap b).changes (next_change b) no_change (j - snap.floor_of (last_snap b) - 1) (omega (arith, len, root, low, this))
-        ∙ (next-is o b (graph_of o s (newest_of o s)) s adds pending count sd.is.stands n
+        ∙ (next-is o b (graph_of o s (newest_of o s)) s old.rows (graph-is o s (newest_of o s) is sd (omega arith)) pending count sd.is.stands n
         ∙ (sym (change-new o s sd.is) ∙ ap (change_of o (done Checkpoint s)) (sym this))))
 
-pub checkpoint-stays : (o : Opening) (b b' : Book) (e : Entry) → All IsAddition b.pending → HasCheckpoint b b' e → e.call ≡ Checkpoint → is_accepted (answers b Checkpoint) ≡ true → IsBookOf o b → IsBookOf o b'
-checkpoint-stays o b b' e adds h call accepted of =
+pub checkpoint-stays : (o : Opening) (b b' : Book) (e : Entry) → HasCheckpoint b b' e → e.call ≡ Checkpoint → is_accepted (answers b Checkpoint) ≡ true → IsBookOf o b → IsBookOf o b'
+checkpoint-stays o b b' e h call accepted of =
     subst (IsBookOf o) (sym h.book)
     (subst (λ t. Agrees o t (b.kept ++ x ∷ []) [] b.count b.added b.oldest) (sym becomes) (
     let numbers = of.numbers in
@@ -174,7 +178,7 @@ checkpoint-stays o b b' e adds h call accepted of =
       oldest_is = of.oldest_is;
       none_installed = of.none_installed;
       numbers = omega (arith, numbers, size, more);
-      each = λ k low high. each-at k low (omega (arith, high, more)) (next-snapshot o b x s sd of.is of.none_installed adds h.next of.pending_is of.count_is n (subst (IsSnapshotOf o s (newest_of o s)) last (of.each (newest_of o s) from (omega arith)))) (cases_lt k (newest_of o s + 1));
+      each = λ k low high. each-at k low (omega (arith, high, more)) (next-snapshot o b x s sd of.is of.none_installed h.next of.pending_is of.count_is n (subst (IsSnapshotOf o s (newest_of o s)) last (of.each (newest_of o s) from (omega arith)))) (cases_lt k (newest_of o s + 1));
     }))
   where
     s : Standing

@@ -1,5 +1,5 @@
 -- What a contract sees of a book.
-use Rattle.std.specs.Prelude.{◌≡◌, ℕ, ◌+◌, ◌-◌, ◌<◌, ◌≤◌, List, [], ◌∷◌, ◌++◌, length, slice_index_or, All}
+use Rattle.std.specs.Prelude.{◌≡◌, ℕ, ◌+◌, ◌-◌, ◌<◌, ◌≤◌, List, [], ◌∷◌, ◌++◌, length, slice_index_or, All, sum_by}
 use Rattle.lama_model.specs.Graph.{no_graph, effect, IsNamedBelow}
 use Rattle.lama_model.specs.Row.{row_at, edges_in, graph_of_rows}
 use Rattle.lama_model.specs.Change.{Change, change_to, row_after}
@@ -9,7 +9,6 @@ use Rattle.lama_model.specs.declared.calls.Write.{Write}
 use Rattle.lama_model.specs.declared.calls.Call.{Call}
 use Rattle.lama_model.specs.declared.calls.Entry.{Entry}
 use Rattle.lama_model.specs.declared.answers.Reply.{Reply}
-use Rattle.lama_delta.specs.Pending.{IsAddition, additions}
 use Rattle.lama_snapshot.specs.Snap.{Snap}
 
 -- a book: the calls so far, the kept snapshots and the writes that wait, all oldest first; how many calls more take no memory of their own; the vertices and the added edges where it stands; and the oldest number that is kept
@@ -31,6 +30,8 @@ no_snap = record {
   changes = [];
   edge_count = 0;
   layout = record { floor = 0; base = []; levels = [] };
+  columns = record { marks = []; weights = [] };
+  cells = [];
 }
 
 -- the newest number
@@ -53,11 +54,10 @@ pub record IsWhole (b : Book) : Type 0 where
   pub number : b.oldest + length b.kept ≤ 100000001
   pub few_vertices : b.count ≤ 4194304
   pub few_added : b.added ≤ 33554432
-  pub only_adds : All IsAddition b.pending
   pub named : All (IsNamedBelow b.count) b.pending
   pub last : (last_snap b).number + 1 ≡ b.oldest + length b.kept
   pub grows : length (last_snap b).rows ≤ b.count
-  pub room : edges_in (last_snap b).rows + length (additions b.pending) ≤ b.added
+  pub room : edges_in (last_snap b).rows + sum_by edges_added b.pending ≤ b.added
 
 -- two books are the same, but that the second may have more room
 pub record IsRoomier (old new : Book) : Type 0 where
@@ -109,7 +109,7 @@ pub record IsNext (b : Book) (s : Snap) : Type 0 where
   pub rows : (v : ℕ) → v < b.count → row_at s.rows v ≡ row_after (next_change b).rows v (row_at (last_snap b).rows v)
   pub base : s.base ≡ (last_snap b).base
   pub changes : s.changes ≡ (last_snap b).changes ++ next_change b ∷ []
-  pub edges : edges_in s.rows ≡ edges_in (last_snap b).rows + length (additions b.pending)
+  pub edges : edges_in s.rows ≤ edges_in (last_snap b).rows + sum_by edges_added b.pending
 
 -- the book with the next snapshot, and no write pending
 pub record HasNext (old new : Book) : Type 0 where

@@ -1,14 +1,14 @@
-ghost use Rattle.std.specs.Prelude.{◌≡◌, ◌≢◌, ◌↔◌, ◌+◌, ◌-◌, ◌<◌, ◌≤◌, [], ◌∷◌, ◌++◌, ℕ, true, Ok as SeenOk, Err as SeenErr, IfOk, IfErr, OnOk, OnErr, MatchOption, length, map};
+ghost use Rattle.std.specs.Prelude.{◌≡◌, ◌≢◌, ◌↔◌, ◌+◌, ◌-◌, ◌<◌, ◌≤◌, nat_le, if◌then◌else◌, [], ◌∷◌, ◌++◌, ℕ, true, Ok as SeenOk, Err as SeenErr, IfOk, IfErr, OnOk, OnErr, MatchOption, length, map};
 ghost use Rattle.std.specs.Arc.{arc_value};
 ghost use Rattle.lama_model.specs.Bounds.{checkpoint_pages};
 ghost use Rattle.lama_model.specs.Opening.{Opening as ModelOpening};
-ghost use Rattle.lama_model.specs.Journal.{reply, is_accepted, edges_added};
+ghost use Rattle.lama_model.specs.Journal.{Standing, reply, is_accepted, edges_added, with_ends};
 ghost use Rattle.lama_model.specs.Graph.{effect};
 ghost use Rattle.lama_model.specs.declared.calls.Call.TheVariants.{Write as SeenWrite, Checkpoint as SeenCheckpoint, Look as SeenLook, LookAt as SeenLookAt};
 ghost use Rattle.lama_model.specs.declared.answers.Refusal.{Refusal as SeenRefusal};
-ghost use Rattle.lama_model.specs.declared.answers.Reply.TheVariants.{Snapshot as SeenSnapshot, Refused as SeenRefused};
+ghost use Rattle.lama_model.specs.declared.answers.Refusal.TheVariants.{FullEdges};
+ghost use Rattle.lama_model.specs.declared.answers.Reply.TheVariants.{Accepted, Snapshot as SeenSnapshot, Refused as SeenRefused};
 ghost use Rattle.lama_snapshot.specs.Snap.{floor_of};
-ghost use Rattle.lama_delta.specs.Pending.{IsAddition};
 ghost use Rattle.lama_book.specs.declared.fault.CallFault.TheVariants.{JournalFull, NoMemory};
 ghost use Rattle.lama_book.specs.Book.{newest_number, last_snap, snap_at, answers, next_change, IsRoomier, HasEntry, HasWrite, HasNext, HasCheckpoint, IsNext};
 ghost use Rattle.lama_book.specs.Relation.{Opens, IsBookOf};
@@ -102,10 +102,8 @@ impl Book {
         self.delta.reserve(n)
     }
 
-    /// Takes a write. Where it is accepted, it waits for the next checkpoint. So far it is one that adds vertices or
-    /// an edge. Costs constant time, amortised.
+    /// Takes a write. Where it is accepted, it waits for the next checkpoint. Costs constant time, amortised.
     pub fn write(&mut self, caller: u16, w: Write) -> Result<Reply, CallFault>
-        requires { IsAddition w }
         ensures reply { IfOk result (λ r. (o : ModelOpening) → IsBookOf o self.old → r ≡ reply o self.old.journal (SeenWrite w)) }
         ensures book { OnOk result ((o : ModelOpening) → IsBookOf o self.old → IsBookOf o self.new) }
         ensures entry { OnOk result (self.new.journal ≡ self.old.journal ++ record { caller = caller; call = SeenWrite w } ∷ []) }
@@ -123,7 +121,8 @@ impl Book {
     }
 
     /// Makes the standing graph the graph of the next number, and a snapshot of it. Costs the pending writes times
-    /// their logarithm, and a pointer for each page of the vertex table and for each level.
+    /// their logarithm, the rows in which they take edges away or weigh them anew, a pointer for each page of the
+    /// vertex table and for each level, and one for each page of the marks or the weights of a table that is touched.
     pub fn checkpoint<L: Ledger>(
         &mut self,
         caller: u16,
@@ -273,7 +272,6 @@ impl Book {
     // What a write is answered.
     #[tactic(auto, unfolding(lama_model::specs::Journal::reply_at, lama_model::specs::Journal::reply_to_write))]
     fn answer(&self, w: Write) -> Reply
-        requires { IsAddition w }
         ensures { result ≡ answers self.now (SeenWrite w) }
     {
         let count = self.count;
@@ -285,24 +283,14 @@ impl Book {
                     Reply::Count { count: count + n }
                 }
             }
-            Write::Add(u, v, _) => {
-                if u >= count {
-                    Reply::Refused(Refusal::UnknownVertex { vertex: u, count })
-                } else if v >= count {
-                    Reply::Refused(Refusal::UnknownVertex { vertex: v, count })
-                } else if self.added >= MAX_EDGES {
-                    Reply::Refused(Refusal::FullEdges)
-                } else {
-                    Reply::Accepted
-                }
-            }
-            Write::Remove(_, _) | Write::Weigh(_, _, _) => unreachable!(),
+            Write::Add(u, v, _) => with_ends(count, u, v, edge_room(self.added)),
+            Write::Remove(u, v) => with_ends(count, u, v, Reply::Accepted),
+            Write::Weigh(u, v, _) => with_ends(count, u, v, Reply::Accepted),
         }
     }
 
     // Answers a write and does it, with room for it and for its entry.
     fn take(&mut self, entry: Entry, w: Write) -> Reply
-        requires addition { IsAddition w }
         requires call { entry.call ≡ SeenWrite w }
         requires room { 0 < self.old.spare }
         requires calls { length self.old.journal < 4194304 }
@@ -342,7 +330,6 @@ impl Book {
 
     // Puts a write that is accepted to the pending ones, and its entry at the end of the journal.
     fn accept(&mut self, entry: Entry, w: Write)
-        requires addition { IsAddition w }
         requires room { 0 < self.old.spare }
         requires calls { length self.old.journal < 4194304 }
         requires accepted { is_accepted (answers self.old (SeenWrite w)) ≡ true }
@@ -383,9 +370,31 @@ impl Book {
     }
 }
 
+// Refused where so many edges were added that no more may be.
+fn edge_room(added: u32) -> Reply
+    ensures { result ≡ (if nat_le 33554432 added then SeenRefused FullEdges else Accepted) }
+{
+    if added >= MAX_EDGES {
+        return Reply::Refused(Refusal::FullEdges);
+    }
+    Reply::Accepted
+}
+
+// Refused where a vertex is not below the count, `u` first.
+fn with_ends(count: u32, u: u32, v: u32, reply: Reply) -> Reply
+    ensures { (s : Standing) → s.graph.count ≡ count → result ≡ with_ends s u v reply }
+{
+    if u >= count {
+        return Reply::Refused(Refusal::UnknownVertex { vertex: u, count });
+    }
+    if v >= count {
+        return Reply::Refused(Refusal::UnknownVertex { vertex: v, count });
+    }
+    reply
+}
+
 // How many vertices a write adds.
 fn more_vertices(w: Write) -> u32
-    requires { IsAddition w }
     ensures { (count : ℕ) → (effect w (record { count = count; edges = [] })).count ≡ count + result }
 {
     match w {

@@ -1,4 +1,4 @@
-ghost use Rattle.std.specs.Prelude.{◌≡◌, ◌<◌, ◌≤◌};
+ghost use Rattle.std.specs.Prelude.{◌≡◌, ◌<◌, ◌≤◌, [], ◌∷◌, drop};
 
 use crate::{Book, CallFault, Opening};
 use lama_base::limits::MAX_JOURNAL;
@@ -50,12 +50,13 @@ fn a_full_journal_takes_no_look(rt: HostRuntime) -> Result<(), Fail> {
     Ok(())
 }
 
-// The replies to these writes with a checkpoint behind each, and the journal.
+// The replies to these writes with a checkpoint behind each, the journal, and the row of vertex 0 in
+// each kept snapshot that has it.
 fn run<L: Ledger>(
     alloc: Global,
-    writes: &[(u32, u32)],
+    writes: &[Write],
     blank: Blank,
-) -> Result<Option<(Vec<Reply>, Vec<Entry>, Vec<u32>)>, AllocError>
+) -> Result<Option<(Vec<Reply>, Vec<Entry>, Vec<Vec<(u32, u64)>>)>, AllocError>
     requires name { blank.name ≡ L.name }
     requires parts { blank.parts ≡ L.parts }
     requires one { blank.parts ≡ 1 }
@@ -63,12 +64,8 @@ fn run<L: Ledger>(
     let mut pages = Steps::<L>::open(blank);
     let mut book = empty_book(alloc, &mut pages)?;
     let mut replies = Vec::new(alloc);
-    let Ok(first) = book.write(0, Write::Vertices(2)) else {
-        return Ok(None);
-    };
-    replies.push(first)?;
-    for &(u, v) in writes {
-        let Ok(reply) = book.write(1, Write::Add(u, v, 7)) else {
+    for &w in writes {
+        let Ok(reply) = book.write(1, w) else {
             return Ok(None);
         };
         replies.push(reply)?;
@@ -77,72 +74,178 @@ fn run<L: Ledger>(
         };
         replies.push(reply)?;
     }
-    let mut degrees = Vec::new(alloc);
-    for snapshot in book.kept() {
-        degrees.push(if snapshot.count() > 0 {
-            snapshot.degree(0)
-        } else {
-            9
-        })?;
-    }
     let mut entries = Vec::new(alloc);
     entries.extend_from_slice(book.journal())?;
-    Ok(Some((replies, entries, degrees)))
+    Ok(Some((replies, entries, first_rows(alloc, &book)?)))
+}
+
+// The row of vertex 0 in each kept snapshot.
+fn first_rows(alloc: Global, book: &Book) -> Result<Vec<Vec<(u32, u64)>>, AllocError> {
+    let mut rows = Vec::new(alloc);
+    for snapshot in book.kept() {
+        rows.push(first_row(alloc, &**snapshot)?)?;
+    }
+    Ok(rows)
+}
+
+// The row of vertex 0, newest edge first; empty where there is no vertex.
+fn first_row<R: Rows>(alloc: Global, rows: &R) -> Result<Vec<(u32, u64)>, AllocError> {
+    let mut row = Vec::new(alloc);
+    if rows.count() == 0 {
+        return Ok(row);
+    }
+    let mut at = rows.start(0);
+    while let Some((target, weight, rest)) = rows.next(at) {
+        row.push((target, weight))?;
+        at = rest;
+    }
+    Ok(row)
 }
 
 #[test]
 fn each_call_has_its_reply_and_its_entry(rt: HostRuntime) -> Result<(), Fail> {
     let alloc = rt.alloc();
-    match run::<Brand>(alloc, &[(0, 1), (2, 0), (0, 0)], Blank::new(1))? {
+    let writes = [
+        Write::Vertices(2),
+        Write::Add(0, 1, 7),
+        Write::Add(2, 0, 7),
+        Write::Add(0, 0, 7),
+        Write::Weigh(0, 1, 9),
+        Write::Remove(0, 2),
+        Write::Remove(0, 1),
+        Write::Weigh(1, 1, 5),
+    ];
+    match run::<Brand>(alloc, &writes, Blank::new(1))? {
         None => assert_eq!(rt; true, false),
-        Some((replies, entries, degrees)) => {
+        Some((replies, entries, rows)) => {
             let refused = Reply::Refused(Refusal::UnknownVertex {
                 vertex: 2,
                 count: 2,
             });
-            let wanted = vec![in alloc;
+            let wanted = [
                 Reply::Count { count: 2 },
                 Reply::Accepted,
-                Reply::Snapshot { number: 1 },
                 refused,
-                Reply::Snapshot { number: 2 },
                 Reply::Accepted,
-                Reply::Snapshot { number: 3 },
+                Reply::Accepted,
+                refused,
+                Reply::Accepted,
+                Reply::Accepted,
+            ];
+            let mut each_reply = Vec::new(alloc);
+            let mut each_entry = Vec::new(alloc);
+            for i in 0..8 {
+                each_reply.push(wanted[i])?;
+                each_reply.push(Reply::Snapshot {
+                    number: i as u32 + 1,
+                })?;
+                each_entry.push(Entry {
+                    caller: 1,
+                    call: Call::Write(writes[i]),
+                })?;
+                each_entry.push(Entry {
+                    caller: 2,
+                    call: Call::Checkpoint,
+                })?;
+            }
+            assert_eq!(rt; replies, each_reply);
+            assert_eq!(rt; entries, each_entry);
+            let in_each = vec![in alloc;
+                Vec::new(alloc),
+                Vec::new(alloc),
+                vec![in alloc; (1, 7)]?,
+                vec![in alloc; (1, 7)]?,
+                vec![in alloc; (0, 7), (1, 7)]?,
+                vec![in alloc; (0, 7), (1, 9)]?,
+                vec![in alloc; (0, 7), (1, 9)]?,
+                vec![in alloc; (0, 7)]?,
+                vec![in alloc; (0, 7)]?,
             ]?;
-            assert_eq!(rt; replies, wanted);
-            let calls = vec![in alloc;
-                Entry {
-                    caller: 0,
-                    call: Call::Write(Write::Vertices(2))
-                },
-                Entry {
-                    caller: 1,
-                    call: Call::Write(Write::Add(0, 1, 7))
-                },
-                Entry {
-                    caller: 2,
-                    call: Call::Checkpoint
-                },
-                Entry {
-                    caller: 1,
-                    call: Call::Write(Write::Add(2, 0, 7))
-                },
-                Entry {
-                    caller: 2,
-                    call: Call::Checkpoint
-                },
-                Entry {
-                    caller: 1,
-                    call: Call::Write(Write::Add(0, 0, 7))
-                },
-                Entry {
-                    caller: 2,
-                    call: Call::Checkpoint
-                },
-            ]?;
-            assert_eq!(rt; entries, calls);
-            assert_eq!(rt; degrees, vec![in alloc; 9, 1, 1, 2]?);
+            assert_eq!(rt; rows, in_each);
         }
     }
+    Ok(())
+}
+
+// Two vertices, with an edge from 0 to 1.
+struct OneEdge;
+
+impl Rows for OneEdge {
+    type At = u32;
+
+    ghost rows = { λ _. ((1, 5) ∷ []) ∷ [] ∷ [] };
+
+    ghost is_place = { λ _ at. at ≤ 1 };
+
+    ghost suffix = { λ _ at. drop at ((1, 5) ∷ []) };
+
+    fn count(&self) -> u32 {
+        2
+    }
+
+    fn degree(&self, v: u32) -> u32 {
+        match v {
+            0 => 1,
+            _ => 0,
+        }
+    }
+
+    fn start(&self, v: u32) -> u32 {
+        match v {
+            0 => 0,
+            _ => 1,
+        }
+    }
+
+    fn next(&self, at: u32) -> Option<(u32, u64, u32)> {
+        match at {
+            0 => Some((1, 5, 1)),
+            _ => None,
+        }
+    }
+}
+
+// The row of vertex 0 in each snapshot where these writes follow the one edge of the base, with a
+// checkpoint behind each.
+fn after_base<L: Ledger>(
+    alloc: Global,
+    writes: &[Write],
+    blank: Blank,
+) -> Result<Option<Vec<Vec<(u32, u64)>>>, AllocError>
+    requires name { blank.name ≡ L.name }
+    requires parts { blank.parts ≡ L.parts }
+    requires one { blank.parts ≡ 1 }
+{
+    let mut pages = Steps::<L>::open(blank);
+    let mut book = Book::new(alloc, Opening::from_rows(alloc, 0, &OneEdge, &mut pages)?)?;
+    for &w in writes {
+        if book.write(0, w).is_err() {
+            return Ok(None);
+        }
+        if book.checkpoint(0, &mut pages).is_err() {
+            return Ok(None);
+        }
+    }
+    Ok(Some(first_rows(alloc, &book)?))
+}
+
+#[test]
+fn parallel_edges_of_the_base_and_a_level(rt: HostRuntime) -> Result<(), Fail> {
+    let alloc = rt.alloc();
+    let writes = [
+        Write::Add(0, 1, 6),
+        Write::Weigh(0, 1, 9),
+        Write::Remove(0, 1),
+    ];
+    let wanted = vec![in alloc;
+        vec![in alloc; (1, 5)]?,
+        vec![in alloc; (1, 6), (1, 5)]?,
+        vec![in alloc; (1, 9), (1, 9)]?,
+        Vec::new(alloc),
+    ]?;
+    assert_eq!(rt;
+        after_base::<Brand>(alloc, &writes, Blank::new(1))?,
+        Some(wanted)
+    );
     Ok(())
 }

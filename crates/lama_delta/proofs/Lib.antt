@@ -1,3 +1,7 @@
+pub mod Rising
+pub mod Named
 pub mod Groups
-pub mod Adds
+pub mod RowLemmas
+pub mod Effects
+pub mod Valid
 pub mod Counted

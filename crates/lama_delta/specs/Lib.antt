@@ -1,3 +1,4 @@
 pub mod Seen
 pub mod Pending
-pub mod Grouping
+pub mod EdgeWrites
+pub mod RowWrites

@@ -1,5 +1,5 @@
 -- What a contract sees of a change.
-use Rattle.std.specs.Prelude.{◌≡◌, ℕ, List, [], map, All}
+use Rattle.std.specs.Prelude.{ℕ, List, map}
 use Rattle.lama_model.specs.Change as model
 use Rattle.lama_delta.specs.declared.change.RowChange.{RowChange}
 
@@ -13,13 +13,3 @@ seen_rows rows = map seen_row rows
 -- a change as a record of lists
 abbrev pub seen_change : ℕ → ℕ → List RowChange → model.Change
 seen_change number count rows = record { number = number; count = count; rows = seen_rows rows }
-
--- nothing is killed or set
-pub record OnlyAdds (r : model.RowChange) : Type 0 where
-  pub killed : r.killed ≡ []
-  pub set : r.set ≡ []
-
--- what holds of every change
-pub record IsSeenChange (c : model.Change) : Type 0 where
-  pub valid : model.IsChange c
-  pub only_adds : All OnlyAdds c.rows

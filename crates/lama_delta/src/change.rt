@@ -1,5 +1,6 @@
 ghost use Rattle.std.specs.Prelude.{◌≡◌};
-ghost use Rattle.lama_delta.specs.Seen.{seen_rows, IsSeenChange};
+ghost use Rattle.lama_model.specs.Change.{IsChange};
+ghost use Rattle.lama_delta.specs.Seen.{seen_rows};
 
 use std::marker::Model;
 
@@ -18,8 +19,8 @@ pub struct RowChange {
 
 /// What changes from one graph to the next. A contract sees it as a plain record of lists.
 ///
-/// Its sources rise and are below `count`, and so are the targets; no row change is empty. So far edges are only
-/// added: nothing is killed or set.
+/// Its sources rise and are below `count`, and the targets are below it too. In each row the killed indexes rise, and so
+/// do those that are set, no index is in both, and no row change is empty.
 #[derive(Drop)]
 pub struct Change {
     /// The number of the graph after the change.
@@ -31,21 +32,21 @@ pub struct Change {
 }
 
 impl Model for Change {
-    ghost use Rattle.lama_model.specs.Change.{Change};
-    ghost use Rattle.lama_delta.specs.Seen.{seen_change, IsSeenChange};
+    ghost use Rattle.lama_model.specs.Change.{Change, IsChange};
+    ghost use Rattle.lama_delta.specs.Seen.{seen_change};
 
     ghost Value = { Change };
 
     ghost view = { λ c. seen_change c.number c.count c.rows.items };
 
-    ghost invariant = { λ c. IsSeenChange (seen_change c.number c.count c.rows.items) };
+    ghost invariant = { λ c. IsChange (seen_change c.number c.count c.rows.items) };
 }
 
 impl Change {
     /// The changed rows, by rising sources.
     pub fn rows(&self) -> &[RowChange]
         ensures rows { seen_rows result.now ≡ self.now.rows }
-        ensures valid { IsSeenChange self.now }
+        ensures valid { IsChange self.now }
     {
         &self.rows
     }

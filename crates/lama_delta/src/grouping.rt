@@ -1,67 +1,64 @@
-// Edges that are sorted by their sources, as changes of rows.
-ghost use Rattle.std.specs.Prelude.{◌≡◌, ◌≢◌, ◌+◌, ◌<◌, ◌≤◌, [], ℕ, All, IfOk, length, map, reverse, slice_index_or};
+// Writes that are sorted by their sources, as changes of rows.
+ghost use Rattle.std.specs.Prelude.{◌≡◌, ◌≢◌, ◌<◌, ◌≤◌, ◌++◌, [], ◌∷◌, ℕ, All, IfOk, OnOk, length, slice_index_or, if◌then◌else◌};
 ghost use Rattle.std.specs.List.{AllWithin};
 ghost use Rattle.std.specs.List.Sorted.{IsNonDecreasingBy};
-ghost use Rattle.lama_base.specs.declared.Edge.{Edge as SeenEdge};
+ghost use Rattle.lama_model.specs.Change.{is_empty_change};
+ghost use Rattle.lama_delta.specs.declared.edge_writes.EdgeWrite.{EdgeWrite as SeenWrite};
 ghost use Rattle.lama_delta.specs.Seen.{seen_row, seen_rows};
-ghost use Rattle.lama_delta.specs.Grouping.{additions_below, pairs_of};
+ghost use Rattle.lama_delta.specs.RowWrites.{changes_below};
 
 use crate::RowChange;
-use lama_base::Edge;
+use crate::edge_writes::EdgeWrite;
+use crate::row_writes::row_change;
+use lama_model::Rows;
 use std::alloc::{AllocError, Global};
 
-// The changes that add these edges, which are sorted by their sources, and for one source oldest first.
-pub(crate) fn group_by_source(alloc: Global, edges: &[Edge]) -> Result<Vec<RowChange>, AllocError>
-    requires { IsNonDecreasingBy (λ e. e.source) edges.now }
-    ensures { IfOk result (λ rows. (count : ℕ) → All (λ e. e.source < count) edges.now →
-        seen_rows rows.items ≡ additions_below edges.now count) }
+// The changes that these writes make of the rows, the writes being sorted by their sources, and for one source oldest
+// first.
+pub(crate) fn group_by_source<R: Rows>(
+    alloc: Global,
+    rows: &R,
+    writes: &[EdgeWrite],
+) -> Result<Vec<RowChange>, AllocError>
+    requires { IsNonDecreasingBy (λ e. e.source) writes.now }
+    ensures { IfOk result (λ changes. (count : ℕ) → All (λ e. e.source < count) writes.now →
+        seen_rows changes.items ≡ changes_below (R.rows rows.now) writes.now count) }
 {
-    let mut rows = Vec::new(alloc);
+    let mut changes = Vec::new(alloc);
     let mut start = 0;
-    while start < edges.len() {
-        let end = group_end(edges, start);
-        rows.push(row_change(alloc, edges[start].source, &edges[start..end])?)?;
+    while start < writes.len() {
+        let end = group_end(writes, start);
+        let change = row_change(alloc, rows, writes[start].source, &writes[start..end])?;
+        push_some(&mut changes, change)?;
         start = end;
     }
-    Ok(rows)
+    Ok(changes)
 }
 
-// Where the edges end that have the source of the one at `start` and follow it.
-fn group_end(edges: &[Edge], start: usize) -> usize
-    requires { start < length edges.now }
+// Where the writes end that have the source of the one at `start` and follow it.
+fn group_end(writes: &[EdgeWrite], start: usize) -> usize
+    requires { start < length writes.now }
     ensures after { start < result }
-    ensures within { result ≤ length edges.now }
-    ensures same { (d : SeenEdge) → AllWithin (λ e. e.source ≡ (slice_index_or edges.now start d).source) edges.now start result }
-    ensures other { (d : SeenEdge) → result < length edges.now → (slice_index_or edges.now result d).source ≢ (slice_index_or edges.now start d).source }
+    ensures within { result ≤ length writes.now }
+    ensures same { (d : SeenWrite) → AllWithin (λ e. e.source ≡ (slice_index_or writes.now start d).source) writes.now start result }
+    ensures other { (d : SeenWrite) → result < length writes.now → (slice_index_or writes.now result d).source ≢ (slice_index_or writes.now start d).source }
 {
-    let source = edges[start].source;
+    let source = writes[start].source;
     let mut end = start + 1;
-    while end < edges.len() && edges[end].source == source {
+    while end < writes.len() && writes[end].source == source {
         end += 1;
     }
     end
 }
 
-// The change of a row that adds these edges, which are given oldest first.
-fn row_change(alloc: Global, source: u32, edges: &[Edge]) -> Result<RowChange, AllocError>
-    ensures { IfOk result (λ row. seen_row row ≡ record { source = source; added = pairs_of (reverse edges.now); killed = []; set = [] }) }
+// Puts a change at the end, unless it says nothing.
+fn push_some(changes: &mut Vec<RowChange>, change: RowChange) -> Result<(), AllocError>
+    ensures { OnOk result (seen_rows changes.new.items ≡
+        (if is_empty_change (seen_row change) then seen_rows changes.old.items else seen_rows changes.old.items ++ seen_row change ∷ [])) }
 {
-    let added = newest_first(alloc, edges)?;
-    Ok(RowChange {
-        source,
-        added,
-        killed: Vec::new(alloc),
-        set: Vec::new(alloc),
-    })
-}
-
-// The targets and weights of the edges, the last one first.
-fn newest_first(alloc: Global, edges: &[Edge]) -> Result<Vec<(u32, u64)>, AllocError>
-    ensures { IfOk result (λ pairs. pairs.items ≡ pairs_of (reverse edges.now)) }
-{
-    edges
-        .iter()
-        .rev()
-        .map(|edge| (edge.target, edge.weight))
-        .collect(alloc)
+    if change.added.is_empty() && change.killed.is_empty() && change.set.is_empty() {
+        return Ok(());
+    }
+    changes.push(change)?;
+    Ok(())
 }

@@ -6,7 +6,9 @@
 
 mod change;
 mod delta;
+mod edge_writes;
 mod grouping;
+mod row_writes;
 
 pub use change::{Change, RowChange};
 pub use delta::Delta;

@@ -17,12 +17,12 @@ abbrev kept_one : Option ℕ → ℕ × Edge → List (ℕ × ℕ) → List (ℕ
 kept_one None p rest = rest
 kept_one (Some w) p rest = (p.1.target, w) ∷ rest
 
-abbrev kept : List (ℕ × Edge) → List (ℕ × Edge) → List (ℕ × ℕ)
+abbrev pub kept : List (ℕ × Edge) → List (ℕ × Edge) → List (ℕ × ℕ)
 kept later [] = []
 kept later (p ∷ ps) = kept_one (weight_of p.0 later) p (kept later ps)
 
 -- an index that was passed says nothing any more
-drop_gone : (i k : ℕ) (gone : List ℕ) (set : List (ℕ × ℕ)) (r : List (ℕ × ℕ)) → k < i → surviving i (k ∷ gone) set r ≡ surviving i gone set r
+pub drop_gone : (i k : ℕ) (gone : List ℕ) (set : List (ℕ × ℕ)) (r : List (ℕ × ℕ)) → k < i → surviving i (k ∷ gone) set r ≡ surviving i gone set r
 drop_gone i k gone set [] lt = refl
 drop_gone i k gone set (p ∷ r) lt =
     let other : eqb k i ≡ false = grind (arith, nat_tests) in
@@ -84,7 +84,7 @@ surviving-kept i later (p ∷ ps) = by (weight_of p.0 later) (surviving-kept (i 
     by (Some w) rest stays old_weight = same w (eqb w p.1.weight) refl rest stays old_weight
 
 -- as many indexes are gone as pairs are not kept
-gone-kept : (i : ℕ) (later ps : List (ℕ × Edge)) → length (indexes_gone i later ps) + length (kept later ps) ≡ length ps
+pub gone-kept : (i : ℕ) (later ps : List (ℕ × Edge)) → length (indexes_gone i later ps) + length (kept later ps) ≡ length ps
 gone-kept i later [] = refl
 gone-kept i later (p ∷ ps) = by (weight_of p.0 later) (gone-kept (i + 1) later ps)
   where
@@ -100,7 +100,7 @@ kept-append later (p ∷ ps) qs = by (weight_of p.0 later) (kept-append later ps
     by None rest = rest
     by (Some w) rest = ap (λ xs. (p.1.target, w) ∷ xs) rest
 
-reverse_one : {A : Type 0} (x : A) (xs : List A) → reverse (x ∷ xs) ≡ reverse xs ++ x ∷ []
+pub reverse_one : {A : Type 0} (x : A) (xs : List A) → reverse (x ∷ xs) ≡ reverse xs ++ x ∷ []
 reverse_one x xs = reverse-append (x ∷ []) xs
 
 kept-reverse : (later ps : List (ℕ × Edge)) → kept later (reverse ps) ≡ reverse (kept later ps)
@@ -113,7 +113,7 @@ kept-reverse later (p ∷ ps) =
     by (Some w) = sym (reverse_one (p.1.target, w) (kept later ps))
 
 -- the later weights of the edges from number k on are the fates
-abbrev Looks : List (ℕ × Edge) → ℕ → List (Option ℕ) → List Edge → Type 0
+abbrev pub Looks : List (ℕ × Edge) → ℕ → List (Option ℕ) → List Edge → Type 0
 Looks later k [] es = Unit {0}
 Looks later k (f ∷ fs) [] = Unit {0}
 Looks later k (f ∷ fs) (e ∷ es) = (weight_of k later ≡ f) × Looks later (k + 1) fs es
@@ -133,7 +133,7 @@ none-from k (p ∷ ps) from =
     let other : eqb p.0 k ≡ false = grind (arith, nat_tests, first) in
     ap (λ b. cond b (Some p.1.weight) (weight_of k ps)) other ∙ none-from k ps from.1
 
-looks : (k : ℕ) (fs : List (Option ℕ)) (es : List Edge) (new : List (ℕ × Edge)) → AreFates fs es → AreFrom (k + length es) new → Looks (thin k fs es ++ new) k fs es
+pub looks : (k : ℕ) (fs : List (Option ℕ)) (es : List Edge) (new : List (ℕ × Edge)) → AreFates fs es → AreFrom (k + length es) new → Looks (thin k fs es ++ new) k fs es
 looks k [] es new are from = tt
 looks k (f ∷ fs) [] new are from = tt
 looks k (None ∷ fs) (e ∷ es) new are from = (
@@ -162,12 +162,12 @@ kept-thin u later k (Some w ∷ fs) (e ∷ es) are h = by (eqb e.source u) (kept
     by true rest = ap (λ o. kept_one o (k, e) (kept later (filter (leaves u) (enumerate_from (k + 1) es)))) h.0 ∙ ap (λ xs. (e.target, w) ∷ xs) rest
     by false rest = rest
 
-map-reverse : {A B : Type 0} (f : A → B) (xs : List A) → map f (reverse xs) ≡ reverse (map f xs)
+pub map-reverse : {A B : Type 0} (f : A → B) (xs : List A) → map f (reverse xs) ≡ reverse (map f xs)
 map-reverse f [] = refl
 map-reverse f (x ∷ xs) = ap (map f) (reverse_one x xs) ∙ (map-append f (reverse xs) (x ∷ []) ∙ (ap (λ ys. ys ++ f x ∷ []) (map-reverse f xs) ∙ sym (reverse_one (f x) (map f xs))))
 
 -- the row before, by its numbered edges
-row-numbered : (g : Graph) (u : ℕ) → map pair (numbered_row g u) ≡ row g u
+pub row-numbered : (g : Graph) (u : ℕ) → map pair (numbered_row g u) ≡ row g u
 row-numbered g u =
     map-reverse pair (filter (leaves u) (enumerate_from 0 g.edges))
     ∙ (pairs_of-plain u (enumerate_from 0 g.edges)
@@ -181,7 +181,7 @@ row-parts g writes u =
     ∙ (sym (pairs_of-plain u (numbered_after writes g).edges)
     ∙ (ap (pairs_of u) t.edges ∙ pairs_of-append u (thin 0 t.fates g.edges) t.new))
 
-kept-old : (g : Graph) (writes : List Write) (u : ℕ) → (let t = thinned g writes in kept (numbered_after writes g).edges (numbered_row g u) ≡ pairs_of u (thin 0 t.fates g.edges))
+pub kept-old : (g : Graph) (writes : List Write) (u : ℕ) → (let t = thinned g writes in kept (numbered_after writes g).edges (numbered_row g u) ≡ pairs_of u (thin 0 t.fates g.edges))
 kept-old g writes u =
     let t = thinned g writes in
     let later = (numbered_after writes g).edges in

@@ -6,6 +6,8 @@ pub mod ViewLemmas
 pub mod JournalLemmas
 pub mod Thinning
 pub mod ChangeLaw
+pub mod Fates
+pub mod RowsOfGraph
 pub mod StandingLemmas
 pub mod JournalLaws
 pub mod Counting

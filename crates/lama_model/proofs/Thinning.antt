@@ -1,5 +1,5 @@
 -- What becomes of numbered edges under writes: the old ones are thinned and reweighed in their places, and new ones follow.
-use Rattle.std.proofs.Common.{◌≡◌, ◌∙◌, ℕ, ◌+◌, ◌≤◌, List, [], ◌∷◌, ◌++◌, length, reverse, map, cond, eqb, Bool, true, false, not, refl, sym, ap, arith, Option, Some, None}
+use Rattle.std.proofs.Common.{◌≡◌, ◌∙◌, ℕ, ◌+◌, ◌≤◌, List, [], ◌∷◌, ◌++◌, length, reverse, map, cond, eqb, Bool, true, false, not, refl, sym, ap, subst, arith, Option, Some, None}
 use Rattle.std.specs.Prelude.{filter, fold}
 use Rattle.std.specs.List.{enumerate_from}
 use Rattle.std.proofs.lemmas.List.{map-append, append_assoc, append-nil, reverse-append}
@@ -7,7 +7,7 @@ use Rattle.std.proofs.lemmas.List.Elements.{filter-append}
 use Rattle.lama_base.specs.declared.Edge.{Edge}
 use Rattle.lama_model.specs.declared.calls.Write.{Write}
 use Rattle.lama_model.specs.declared.calls.Write.TheVariants.{Vertices, Add, Remove, Weigh}
-use Rattle.lama_model.specs.Graph.{Graph, effect, joins, with_weight}
+use Rattle.lama_model.specs.Graph.{Graph, no_graph, effect, joins, with_weight}
 use Rattle.lama_model.specs.Row.{leaving}
 use Rattle.lama_model.specs.Change.{Numbered, numbered, numbered_effect, numbered_after, graph_after}
 
@@ -65,7 +65,7 @@ filter-thin u v k (Some w ∷ fs) (e ∷ es) = by (joins u v e) (filter-thin u v
     by false rest = ap (λ ps. (k, with_weight w e) ∷ ps) rest
 
 -- the edges from u to v that are there have the weight w
-abbrev option_weight : Bool → ℕ → Option ℕ → Option ℕ
+abbrev pub option_weight : Bool → ℕ → Option ℕ → Option ℕ
 option_weight b w None = None
 option_weight b w (Some old) = Some (cond b w old)
 
@@ -124,68 +124,11 @@ thin-from k (f ∷ fs) [] = tt
 thin-from k (None ∷ fs) (e ∷ es) = AreFrom-weaker k (k + 1) (thin (k + 1) fs es) (omega arith) (thin-from (k + 1) fs es)
 thin-from k (Some w ∷ fs) (e ∷ es) = (omega arith, AreFrom-weaker k (k + 1) (thin (k + 1) fs es) (omega arith) (thin-from (k + 1) fs es))
 
--- the numbered edges are the old ones, thinned, and then new ones
-pub record IsThinned (es : List Edge) (t : Numbered) : Type 0 where
-  pub fates : List (Option ℕ)
-  pub new : List (ℕ × Edge)
-  pub are : AreFates fates es
-  pub edges : t.edges ≡ thin 0 fates es ++ new
-  pub past : AreFrom (length es) new
-  pub next : length es ≤ t.next
-
-thinned-start : (g : Graph) → IsThinned g.edges (numbered g)
-thinned-start g = record {
-  fates = all_kept g.edges;
-  new = [];
-  are = all_kept-fates g.edges;
-  edges = sym (append-nil (thin 0 (all_kept g.edges) g.edges) ∙ thin-all 0 g.edges);
-  past = tt;
-  next = omega arith;
-}
-
-thinned-effect : (es : List Edge) (w : Write) (t : Numbered) → IsThinned es t → IsThinned es (numbered_effect w t)
-thinned-effect es (Vertices n) t h = h
-thinned-effect es (Add u v w) t h = record {
-  fates = h.fates;
-  new = h.new ++ (t.next, record { source = u; target = v; weight = w }) ∷ [];
-  are = h.are;
-  edges = ap (λ ps. ps ++ (t.next, record { source = u; target = v; weight = w }) ∷ []) h.edges ∙ append_assoc (thin 0 h.fates es) h.new ((t.next, record { source = u; target = v; weight = w }) ∷ []);
-  past = AreFrom-append (length es) h.new ((t.next, record { source = u; target = v; weight = w }) ∷ []) h.past (h.next, tt);
-  next = let before = h.next in omega (arith, before);
-}
-thinned-effect es (Remove u v) t h = record {
-  fates = removed u v h.fates es;
-  new = filter (λ (p : ℕ × Edge). not (joins u v p.1)) h.new;
-  are = removed-fates u v h.fates es h.are;
-  edges = ap (filter (λ (p : ℕ × Edge). not (joins u v p.1))) h.edges
-      ∙ (filter-append (λ (p : ℕ × Edge). not (joins u v p.1)) (thin 0 h.fates es) h.new
-      ∙ ap (λ ps. ps ++ filter (λ (p : ℕ × Edge). not (joins u v p.1)) h.new) (filter-thin u v 0 h.fates es));
-  past = AreFrom-filter (λ (p : ℕ × Edge). not (joins u v p.1)) (length es) h.new h.past;
-  next = h.next;
-}
-thinned-effect es (Weigh u v w) t h = record {
-  fates = reweighed u v w h.fates es;
-  new = map (weigh u v w) h.new;
-  are = reweighed-fates u v w h.fates es h.are;
-  edges = ap (map (weigh u v w)) h.edges
-      ∙ (map-append (weigh u v w) (thin 0 h.fates es) h.new
-      ∙ ap (λ ps. ps ++ map (weigh u v w) h.new) (map-thin u v w 0 h.fates es));
-  past = AreFrom-map u v w (length es) h.new h.past;
-  next = h.next;
-}
-
-thinned-run : (es : List Edge) (writes : List Write) (t : Numbered) → IsThinned es t → IsThinned es (fold (λ t w. numbered_effect w t) t writes)
-thinned-run es [] t h = h
-thinned-run es (w ∷ writes) t h = thinned-run es writes (numbered_effect w t) (thinned-effect es w t h)
-
-pub thinned : (g : Graph) (writes : List Write) → IsThinned g.edges (numbered_after writes g)
-thinned g writes = thinned-run g.edges writes (numbered g) (thinned-start g)
-
 -- without their numbers they are the graph's edges
 abbrev pub plain : List (ℕ × Edge) → List Edge
 plain ps = map (λ (p : ℕ × Edge). p.1) ps
 
-plain-filter : (test : Edge → Bool) (ps : List (ℕ × Edge)) → plain (filter (λ (p : ℕ × Edge). test p.1) ps) ≡ filter test (plain ps)
+pub plain-filter : (test : Edge → Bool) (ps : List (ℕ × Edge)) → plain (filter (λ (p : ℕ × Edge). test p.1) ps) ≡ filter test (plain ps)
 plain-filter test [] = refl
 plain-filter test (p ∷ ps) = by (test p.1) (plain-filter test ps)
   where
@@ -196,6 +139,126 @@ plain-filter test (p ∷ ps) = by (test p.1) (plain-filter test ps)
 plain-weigh : (u v w : ℕ) (ps : List (ℕ × Edge)) → plain (map (weigh u v w) ps) ≡ map (λ (e : Edge). cond (joins u v e) (with_weight w e) e) (plain ps)
 plain-weigh u v w [] = refl
 plain-weigh u v w (p ∷ ps) = ap (λ es. cond (joins u v p.1) (with_weight w p.1) p.1 ∷ es) (plain-weigh u v w ps)
+
+-- what a write makes of the later weight of an edge, where it is still there
+abbrev pub fate_step : Write → Edge → Option ℕ → Option ℕ
+fate_step (Vertices n) e f = f
+fate_step (Add u v w) e f = f
+fate_step (Remove u v) e f = cond (joins u v e) None f
+fate_step (Weigh u v w) e f = option_weight (joins u v e) w f
+
+-- and what the writes make of it, oldest first
+abbrev pub run_fate : List Write → Edge → Option ℕ → Option ℕ
+run_fate [] e f = f
+run_fate (w ∷ ws) e f = run_fate ws e (fate_step w e f)
+
+run_fate-push : (ws : List Write) (w : Write) (e : Edge) (f : Option ℕ) → run_fate (ws ++ w ∷ []) e f ≡ fate_step w e (run_fate ws e f)
+run_fate-push [] w e f = refl
+run_fate-push (x ∷ ws) w e f = run_fate-push ws w e (fate_step x e f)
+
+-- the later weights of the edges
+abbrev pub fates_after : List Write → List Edge → List (Option ℕ)
+fates_after ws [] = []
+fates_after ws (e ∷ es) = run_fate ws e (Some e.weight) ∷ fates_after ws es
+
+fates-none : (es : List Edge) → all_kept es ≡ fates_after [] es
+fates-none [] = refl
+fates-none (e ∷ es) = ap (λ fs. Some e.weight ∷ fs) (fates-none es)
+
+-- a write that keeps each fate
+fates-same : (ws : List Write) (w : Write) (es : List Edge) → ((e : Edge) (f : Option ℕ) → fate_step w e f ≡ f) → fates_after ws es ≡ fates_after (ws ++ w ∷ []) es
+fates-same ws w [] same = refl
+fates-same ws w (e ∷ es) same = ap (λ f. f ∷ fates_after ws es) (sym (run_fate-push ws w e (Some e.weight) ∙ same e (run_fate ws e (Some e.weight)))) ∙ ap (λ fs. run_fate (ws ++ w ∷ []) e (Some e.weight) ∷ fs) (fates-same ws w es same)
+
+fates-removed : (ws : List Write) (u v : ℕ) (es : List Edge) → removed u v (fates_after ws es) es ≡ fates_after (ws ++ Remove u v ∷ []) es
+fates-removed ws u v [] = refl
+fates-removed ws u v (e ∷ es) = ap (λ f. f ∷ removed u v (fates_after ws es) es) (sym (run_fate-push ws (Remove u v) e (Some e.weight))) ∙ ap (λ fs. run_fate (ws ++ Remove u v ∷ []) e (Some e.weight) ∷ fs) (fates-removed ws u v es)
+
+fates-reweighed : (ws : List Write) (u v w : ℕ) (es : List Edge) → reweighed u v w (fates_after ws es) es ≡ fates_after (ws ++ Weigh u v w ∷ []) es
+fates-reweighed ws u v w [] = refl
+fates-reweighed ws u v w (e ∷ es) = ap (λ f. f ∷ reweighed u v w (fates_after ws es) es) (sym (run_fate-push ws (Weigh u v w) e (Some e.weight))) ∙ ap (λ fs. run_fate (ws ++ Weigh u v w ∷ []) e (Some e.weight) ∷ fs) (fates-reweighed ws u v w es)
+
+graph_after-push : (ws : List Write) (w : Write) (g : Graph) → graph_after (ws ++ w ∷ []) g ≡ effect w (graph_after ws g)
+graph_after-push [] w g = refl
+graph_after-push (x ∷ ws) w g = graph_after-push ws w (effect x g)
+
+-- the numbered edges are the old ones, thinned, and then new ones
+pub record IsThinned (es : List Edge) (ws : List Write) (t : Numbered) : Type 0 where
+  pub fates : List (Option ℕ)
+  pub new : List (ℕ × Edge)
+  pub are : AreFates fates es
+  pub edges : t.edges ≡ thin 0 fates es ++ new
+  pub past : AreFrom (length es) new
+  pub next : length es ≤ t.next
+  pub fates_are : fates ≡ fates_after ws es
+  pub new_are : plain new ≡ (graph_after ws no_graph).edges
+
+thinned-start : (g : Graph) → IsThinned g.edges [] (numbered g)
+thinned-start g = record {
+  fates = all_kept g.edges;
+  new = [];
+  are = all_kept-fates g.edges;
+  edges = sym (append-nil (thin 0 (all_kept g.edges) g.edges) ∙ thin-all 0 g.edges);
+  past = tt;
+  next = omega arith;
+  fates_are = fates-none g.edges;
+  new_are = refl;
+}
+
+thinned-effect : (es : List Edge) (ws : List Write) (w : Write) (t : Numbered) → IsThinned es ws t → IsThinned es (ws ++ w ∷ []) (numbered_effect w t)
+thinned-effect es ws (Vertices n) t h = record {
+  fates = h.fates;
+  new = h.new;
+  are = h.are;
+  edges = h.edges;
+  past = h.past;
+  next = h.next;
+  fates_are = h.fates_are ∙ fates-same ws (Vertices n) es (λ e f. refl);
+  new_are = h.new_are ∙ sym (ap (λ (g : Graph). g.edges) (graph_after-push ws (Vertices n) no_graph));
+}
+thinned-effect es ws (Add u v w) t h = record {
+  fates = h.fates;
+  new = h.new ++ (t.next, record { source = u; target = v; weight = w }) ∷ [];
+  are = h.are;
+  edges = ap (λ ps. ps ++ (t.next, record { source = u; target = v; weight = w }) ∷ []) h.edges ∙ append_assoc (thin 0 h.fates es) h.new ((t.next, record { source = u; target = v; weight = w }) ∷ []);
+  past = AreFrom-append (length es) h.new ((t.next, record { source = u; target = v; weight = w }) ∷ []) h.past (h.next, tt);
+  next = let before = h.next in omega (arith, before);
+  fates_are = h.fates_are ∙ fates-same ws (Add u v w) es (λ e f. refl);
+  new_are = map-append (λ (p : ℕ × Edge). p.1) h.new ((t.next, record { source = u; target = v; weight = w }) ∷ [])
+      ∙ (ap (λ es. es ++ record { source = u; target = v; weight = w } ∷ []) h.new_are ∙ sym (ap (λ (g : Graph). g.edges) (graph_after-push ws (Add u v w) no_graph)));
+}
+thinned-effect es ws (Remove u v) t h = record {
+  fates = removed u v h.fates es;
+  new = filter (λ (p : ℕ × Edge). not (joins u v p.1)) h.new;
+  are = removed-fates u v h.fates es h.are;
+  edges = ap (filter (λ (p : ℕ × Edge). not (joins u v p.1))) h.edges
+      ∙ (filter-append (λ (p : ℕ × Edge). not (joins u v p.1)) (thin 0 h.fates es) h.new
+      ∙ ap (λ ps. ps ++ filter (λ (p : ℕ × Edge). not (joins u v p.1)) h.new) (filter-thin u v 0 h.fates es));
+  past = AreFrom-filter (λ (p : ℕ × Edge). not (joins u v p.1)) (length es) h.new h.past;
+  next = h.next;
+  fates_are = ap (λ fs. removed u v fs es) h.fates_are ∙ fates-removed ws u v es;
+  new_are = plain-filter (λ (e : Edge). not (joins u v e)) h.new ∙ (ap (filter (λ (e : Edge). not (joins u v e))) h.new_are ∙ sym (ap (λ (g : Graph). g.edges) (graph_after-push ws (Remove u v) no_graph)));
+}
+thinned-effect es ws (Weigh u v w) t h = record {
+  fates = reweighed u v w h.fates es;
+  new = map (weigh u v w) h.new;
+  are = reweighed-fates u v w h.fates es h.are;
+  edges = ap (map (weigh u v w)) h.edges
+      ∙ (map-append (weigh u v w) (thin 0 h.fates es) h.new
+      ∙ ap (λ ps. ps ++ map (weigh u v w) h.new) (map-thin u v w 0 h.fates es));
+  past = AreFrom-map u v w (length es) h.new h.past;
+  next = h.next;
+  fates_are = ap (λ fs. reweighed u v w fs es) h.fates_are ∙ fates-reweighed ws u v w es;
+  new_are = plain-weigh u v w h.new ∙ (ap (map (λ (e : Edge). cond (joins u v e) (with_weight w e) e)) h.new_are ∙ sym (ap (λ (g : Graph). g.edges) (graph_after-push ws (Weigh u v w) no_graph)));
+}
+
+thinned-run : (es : List Edge) (done writes : List Write) (t : Numbered) → IsThinned es done t → IsThinned es (done ++ writes) (fold (λ t w. numbered_effect w t) t writes)
+thinned-run es done [] t h = subst (λ ws. IsThinned es ws t) (sym (append-nil done)) h
+thinned-run es done (w ∷ writes) t h =
+    subst (λ ws. IsThinned es ws (fold (λ t w. numbered_effect w t) (numbered_effect w t) writes)) (append_assoc done (w ∷ []) writes) (thinned-run es (done ++ w ∷ []) writes (numbered_effect w t) (thinned-effect es done w t h))
+
+pub thinned : (g : Graph) (writes : List Write) → IsThinned g.edges writes (numbered_after writes g)
+thinned g writes = thinned-run g.edges [] writes (numbered g) (thinned-start g)
 
 pub plain-enumerate : (k : ℕ) (es : List Edge) → plain (enumerate_from k es) ≡ es
 plain-enumerate k [] = refl

@@ -1,6 +1,7 @@
 -- The lines that a script's commands print. Each ends with a line feed, and has one blank between two words.
-use Rattle.std.specs.Prelude.{ℕ, List, [], ◌++◌, codes, decimal}
+use Rattle.std.specs.Prelude.{ℕ, suc, List, [], ◌∷◌, ◌++◌, codes, decimal}
 use Rattle.std.specs.List.{flat_map}
+use Rattle.lama_model.specs.Row.{edges_in}
 use Rattle.lama_model.specs.Script.{End}
 use Rattle.lama_model.specs.Script.End.{Whole, BadAt, TooMany}
 use Rattle.lama_model.specs.declared.calls.Write.TheVariants.{Vertices}
@@ -34,6 +35,19 @@ pair_text p = codes " " ++ decimal p.0 ++ codes "/" ++ decimal p.1
 -- a row of the snapshot k
 unfoldable pub row_line : ℕ → ℕ → List (ℕ × ℕ) → List ℕ
 row_line k v pairs = codes "row " ++ decimal k ++ codes " " ++ decimal v ++ codes " :" ++ flat_map pair_text pairs ++ codes "\n"
+
+-- an edge of the source u: its source, target and weight
+abbrev pub edge_line : ℕ → ℕ × ℕ → List ℕ
+edge_line u p = decimal u ++ codes " " ++ decimal p.0 ++ codes " " ++ decimal p.1 ++ codes "\n"
+
+-- the edges of the rows from that of vertex u on
+abbrev pub edge_lines : ℕ → List (List (ℕ × ℕ)) → List ℕ
+edge_lines u [] = []
+edge_lines u (r ∷ rows) = flat_map (edge_line u) r ++ edge_lines (suc u) rows
+
+-- all edges of the snapshot k, with their number before them
+unfoldable pub edges_lines : ℕ → List (List (ℕ × ℕ)) → List ℕ
+edges_lines k rows = codes "edges " ++ decimal k ++ codes " " ++ decimal (edges_in rows) ++ codes "\n" ++ edge_lines 0 rows
 
 -- the last line, for a run whose journal has that many entries
 unfoldable pub last_line : ℕ → End → List ℕ

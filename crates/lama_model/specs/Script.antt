@@ -2,11 +2,11 @@
 use Rattle.std.specs.Prelude.{ℕ, ◌+◌, ◌-◌, ◌*◌, ◌==◌, nat_le, nat_lt, Bool, true, false, ◌&&◌, ◌||◌, if◌then◌else◌, List, [], ◌∷◌, length, filter, fold, codes, bytes_eq, Option, Some, None}
 use Rattle.std.specs.List.{slice_split, list_all}
 use Rattle.std.specs.Option.{option_map, option_and_then}
-use Rattle.lama_model.specs.declared.calls.Write.TheVariants.{Vertices, Add}
+use Rattle.lama_model.specs.declared.calls.Write.TheVariants.{Vertices, Add, Remove, Weigh}
 use Rattle.lama_model.specs.declared.commands.Command.{Command}
 use Rattle.lama_model.specs.declared.commands.Command.TheVariants.{Write as Writes, Checkpoint as Checkpoints, Read as Reads}
 use Rattle.lama_model.specs.declared.commands.Read.{Read}
-use Rattle.lama_model.specs.declared.commands.Read.TheVariants.{Row}
+use Rattle.lama_model.specs.declared.commands.Read.TheVariants.{Row, Edges}
 
 abbrev pub is_line_feed : ℕ → Bool
 is_line_feed b = b == 10
@@ -55,6 +55,14 @@ number word =
 abbrev pub add_of : Option ℕ → Option ℕ → Option ℕ → Option Command
 add_of u v w = option_and_then (λ u. option_and_then (λ v. option_map (λ w. Writes (Add u v w)) w) v) u
 
+-- weigh U V W, where all three are numbers
+abbrev pub weigh_of : Option ℕ → Option ℕ → Option ℕ → Option Command
+weigh_of u v w = option_and_then (λ u. option_and_then (λ v. option_map (λ w. Writes (Weigh u v w)) w) v) u
+
+-- del U V, where both are numbers
+abbrev pub del_of : Option ℕ → Option ℕ → Option Command
+del_of u v = option_and_then (λ u. option_map (λ v. Writes (Remove u v)) v) u
+
 abbrev pub vertices_command : List (List ℕ) → Option Command
 vertices_command [] = None
 vertices_command (n ∷ []) = option_map (λ n. Writes (Vertices n)) (number n)
@@ -68,6 +76,19 @@ add_command (u ∷ v ∷ []) = add_of (number u) (number v) (Some 1)
 add_command (u ∷ v ∷ w ∷ []) = add_of (number u) (number v) (number w)
 add_command (u ∷ v ∷ w ∷ more ∷ args) = None
 
+abbrev pub del_command : List (List ℕ) → Option Command
+del_command [] = None
+del_command (u ∷ []) = None
+del_command (u ∷ v ∷ []) = del_of (number u) (number v)
+del_command (u ∷ v ∷ more ∷ args) = None
+
+abbrev pub weigh_command : List (List ℕ) → Option Command
+weigh_command [] = None
+weigh_command (u ∷ []) = None
+weigh_command (u ∷ v ∷ []) = None
+weigh_command (u ∷ v ∷ w ∷ []) = weigh_of (number u) (number v) (number w)
+weigh_command (u ∷ v ∷ w ∷ more ∷ args) = None
+
 abbrev pub checkpoint_command : List (List ℕ) → Option Command
 checkpoint_command [] = Some Checkpoints
 checkpoint_command (more ∷ args) = None
@@ -77,9 +98,16 @@ row_read [] = None
 row_read (v ∷ []) = option_map (λ v. Row v) (number v)
 row_read (v ∷ more ∷ args) = None
 
+abbrev pub edges_read : List (List ℕ) → Option Read
+edges_read [] = Some Edges
+edges_read (more ∷ args) = None
+
 -- what is read by a word and the words after it
 unfoldable pub read_of : List ℕ → List (List ℕ) → Option Read
-read_of word args = if bytes_eq word (codes "row") then row_read args else None
+read_of word args =
+    if bytes_eq word (codes "row") then row_read args
+    else (if bytes_eq word (codes "edges") then edges_read args
+    else None)
 
 -- what stands behind an at sign at the front of a word
 abbrev pub behind_at : List ℕ → Option (List ℕ)
@@ -97,8 +125,10 @@ unfoldable pub command_of : List ℕ → List (List ℕ) → Option Command
 command_of word args =
     if bytes_eq word (codes "vertices") then vertices_command args
     else (if bytes_eq word (codes "add") then add_command args
+    else (if bytes_eq word (codes "del") then del_command args
+    else (if bytes_eq word (codes "weigh") then weigh_command args
     else (if bytes_eq word (codes "checkpoint") then checkpoint_command args
-    else reading_of (behind_at word) word args))
+    else reading_of (behind_at word) word args))))
 
 -- what a line says
 pub data Meaning : Type 0 where

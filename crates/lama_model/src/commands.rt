@@ -7,6 +7,8 @@ use crate::calls::Write;
 pub enum Read {
     /// The row of a vertex.
     Row { v: u32 },
+    /// All edges.
+    Edges,
 }
 
 /// One command of a script.

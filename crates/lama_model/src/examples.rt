@@ -14,7 +14,7 @@ ghost use Rattle.lama_model.specs.declared.answers.Reply.TheVariants.{Accepted, 
 ghost use Rattle.lama_model.specs.declared.answers.Refusal.TheVariants.{UnknownVertex, FullVertices, NoSnapshot};
 ghost use Rattle.lama_model.specs.Examples.{busy, edge};
 
-/// A run of the four commands, and the lines that it prints.
+/// Runs of scripts, and the lines that they print.
 pub fn texts()
     ensures first { text empty_opening (codes "vertices 3\nadd 0 1\nadd 0 2\ncheckpoint\nrow 0\n")
         ≡ codes "vertices 3\nsnapshot 1\nrow 1 0 : 2/1 1/1\nend 5\n" }
@@ -22,6 +22,11 @@ pub fn texts()
     // A write is read from the next checkpoint on.
     ensures pending { text empty_opening (codes "vertices 2\ncheckpoint\nadd 0 1\nrow 0\n")
         ≡ codes "vertices 2\nsnapshot 1\nrow 1 0 :\nend 4\n" }
+    // A deletion takes all edges between its vertices, and what is added after it stays.
+    ensures deleted { text empty_opening (codes "vertices 2\nadd 0 0\nadd 0 1\nadd 0 1\ndel 0 1\nadd 0 1 7\ncheckpoint\nrow 0\n")
+        ≡ codes "vertices 2\nsnapshot 1\nrow 1 0 : 1/7 0/1\nend 8\n" }
+    ensures weighed { text empty_opening (codes "vertices 2\nadd 0 1\nadd 1 0 3\nadd 0 1\nweigh 0 1 9\nadd 0 1 2\ncheckpoint\nedges\n@0 edges\n")
+        ≡ codes "vertices 2\nsnapshot 1\nedges 1 4\n0 1 2\n0 1 9\n0 1 9\n1 0 3\nedges 0 0\nend 9\n" }
     // A bad line ends the run, and what stands after it decides nothing.
     ensures bad { text empty_opening (codes "# a note\n\nvertices 007 \r\n vertices\tx\nvertices 1\n") ≡ codes "vertices 7\nbad line 4\n" }
     ensures refused { text empty_opening (codes "vertices 1\nadd 5 6\nadd 0 2\nrow 9\nvertices 4194304") ≡

@@ -1,6 +1,7 @@
 -- Texts that are appended piece by piece.
 use Rattle.std.proofs.Common.{◌≡◌, sym, ap, ◌∙◌, ℕ, List, ◌++◌, Result, Ok, Err, OnOk, append_assoc, codes, decimal}
-use Rattle.lama_model.specs.Lines.{refusal_line}
+use Rattle.lama_model.specs.Row.{edges_in}
+use Rattle.lama_model.specs.Lines.{refusal_line, edges_lines, edge_lines}
 use Rattle.lama_model.specs.declared.answers.Refusal.TheVariants.{UnknownVertex, NoSnapshot}
 
 -- a piece after what was appended before
@@ -16,6 +17,9 @@ appended_last (Err e) old front middle back new whole m w n = n
 in_pairs : (a b c d e f g : List ℕ) → (((((a ++ b) ++ c) ++ d) ++ e) ++ f) ++ g ≡ (((a ++ b) ++ (c ++ d)) ++ (e ++ f)) ++ g
 in_pairs a b c d e f g = simp append_assoc
 
+in_threes : (a b c d e f : List ℕ) → a ++ b ++ c ++ d ++ e ++ f ≡ ((a ++ b) ++ (c ++ d ++ e)) ++ f
+in_threes a b c d e f = simp append_assoc
+
 pub unknown-pieces : (vertex count : ℕ) → refusal_line (UnknownVertex vertex count) ≡
     ((codes "unknown vertex " ++ decimal vertex) ++ (codes " of " ++ decimal count)) ++ codes "\n"
 unfolding refusal_line
@@ -25,3 +29,8 @@ pub missing-pieces : (asked oldest newest : ℕ) → refusal_line (NoSnapshot as
     (((codes "no snapshot " ++ decimal asked) ++ (codes " of " ++ decimal oldest)) ++ (codes " " ++ decimal newest)) ++ codes "\n"
 unfolding refusal_line
 missing-pieces asked oldest newest = in_pairs (codes "no snapshot ") (decimal asked) (codes " of ") (decimal oldest) (codes " ") (decimal newest) (codes "\n")
+
+pub edges-pieces : (k : ℕ) (rows : List (List (ℕ × ℕ))) → edges_lines k rows ≡
+    ((codes "edges " ++ decimal k) ++ (codes " " ++ decimal (edges_in rows) ++ codes "\n")) ++ edge_lines 0 rows
+unfolding edges_lines
+edges-pieces k rows = in_threes (codes "edges ") (decimal k) (codes " ") (decimal (edges_in rows)) (codes "\n") (edge_lines 0 rows)

@@ -2,7 +2,7 @@
 
 ghost use Rattle.std.specs.Prelude.{◌≡◌, [], ◌∷◌, not, length, MatchOption, None, Some, IsTrue, ◌↔◌};
 ghost use Rattle.std.specs.List.{position};
-ghost use Rattle.lama_model.specs.Script.{words, number, vertices_command, add_command, checkpoint_command, row_read, read_of, behind_at, reading_of, command_of, meaning, without_return};
+ghost use Rattle.lama_model.specs.Script.{words, number, vertices_command, add_command, del_command, weigh_command, checkpoint_command, row_read, edges_read, read_of, behind_at, reading_of, command_of, meaning, without_return};
 ghost use Rattle.lama_model.specs.Script as grammar;
 ghost use Rattle.lama_script.specs.Parsing.{answer_to};
 
@@ -106,6 +106,10 @@ fn command(word: &[u8], args: &[u8]) -> Option<Command>
         vertices(args)
     } else if word == b"add".as_slice() {
         add(args)
+    } else if word == b"del".as_slice() {
+        del(args)
+    } else if word == b"weigh".as_slice() {
+        weigh(args)
     } else if word == b"checkpoint".as_slice() {
         checkpoint(args)
     } else {
@@ -144,6 +148,8 @@ fn read(word: &[u8], args: &[u8]) -> Option<Read>
 {
     if word == b"row".as_slice() {
         row(args)
+    } else if word == b"edges".as_slice() {
+        edges(args)
     } else {
         None
     }
@@ -179,6 +185,29 @@ fn add(args: &[u8]) -> Option<Command>
     Some(Command::Write(Write::Add(number(source)?, number(target)?, u64::from(weight))))
 }
 
+fn del(args: &[u8]) -> Option<Command>
+    ensures { result ≡ del_command (words args.now) }
+{
+    let (source, args) = first_word(args)?;
+    let (target, rest) = first_word(args)?;
+    if !is_end(rest) {
+        return None;
+    }
+    Some(Command::Write(Write::Remove(number(source)?, number(target)?)))
+}
+
+fn weigh(args: &[u8]) -> Option<Command>
+    ensures { result ≡ weigh_command (words args.now) }
+{
+    let (source, args) = first_word(args)?;
+    let (target, args) = first_word(args)?;
+    let weight = match first_word(args) {
+        Some((weight, args)) if is_end(args) => number(weight)?,
+        _ => return None,
+    };
+    Some(Command::Write(Write::Weigh(number(source)?, number(target)?, u64::from(weight))))
+}
+
 fn checkpoint(args: &[u8]) -> Option<Command>
     ensures { result ≡ checkpoint_command (words args.now) }
 {
@@ -193,4 +222,10 @@ fn row(args: &[u8]) -> Option<Read>
         return None;
     }
     Some(Read::Row { v: number(vertex)? })
+}
+
+fn edges(args: &[u8]) -> Option<Read>
+    ensures { result ≡ edges_read (words args.now) }
+{
+    is_end(args).then_some(Read::Edges)
 }

@@ -11,4 +11,4 @@ mod tests;
 pub use item::{Item, ScriptFault};
 pub use lama_model::{Command, Read};
 pub use parser::Parser;
-pub use printers::{print_numbered, print_reply, print_row};
+pub use printers::{print_edges, print_numbered, print_reply, print_row};

@@ -1,9 +1,9 @@
 //! Printers: each appends the lines of one answer to the output.
 
-ghost use Rattle.std.specs.Prelude.{◌≡◌, ◌<◌, ◌++◌, take, length, codes, decimal, vec_len, OnOk, OnErr};
+ghost use Rattle.std.specs.Prelude.{◌≡◌, ◌<◌, ◌++◌, ℕ, List, take, length, codes, decimal, vec_len, OnOk, OnErr};
 ghost use Rattle.std.specs.List.{flat_map};
-ghost use Rattle.lama_model.specs.Lines.{reply_line, refusal_line, row_line, pair_text};
-ghost use Rattle.lama_model.specs.Row.{row_at};
+ghost use Rattle.lama_model.specs.Lines.{reply_line, refusal_line, row_line, pair_text, edges_lines, edge_lines, edge_line};
+ghost use Rattle.lama_model.specs.Row.{row_at, edges_in};
 
 use itoa::Buffer;
 use lama_model::{Command, Refusal, Reply, Rows, Write};
@@ -32,6 +32,21 @@ pub fn print_row<R: Rows>(out: &mut Vec<u8>, k: u32, rows: &R, v: u32) -> Result
 {
     let before = out.len();
     let printed = append_row(out, k, rows, v);
+    if printed.is_err() {
+        out.truncate(before);
+    }
+    printed
+}
+
+/// Appends the line that counts the edges of snapshot `k`, and a line for each of them, sources
+/// rising and each row newest edge first. Linear in vertices and edges. Without memory the output
+/// stays as it was.
+pub fn print_edges<R: Rows>(out: &mut Vec<u8>, k: u32, rows: &R) -> Result<(), AllocError>
+    ensures ok { OnOk result (out.new.items ≡ out.old.items ++ edges_lines k (R.rows rows.now)) }
+    ensures err { OnErr result (out.new.items ≡ out.old.items) }
+{
+    let before = out.len();
+    let printed = append_edges(out, k, rows);
     if printed.is_err() {
         out.truncate(before);
     }
@@ -163,4 +178,63 @@ fn append_pairs<R: Rows>(out: &mut Vec<u8>, rows: &R, start: R::At) -> Result<()
         at = rest;
     }
     Ok(())
+}
+
+/// How many edges the rows have. Linear in the vertices.
+fn count_edges<R: Rows>(rows: &R) -> u64
+    ensures { result ≡ edges_in (R.rows rows.now) }
+{
+    let mut total = 0u64;
+    for v in 0..rows.count() {
+        total += u64::from(rows.degree(v));
+    }
+    total
+}
+
+fn append_edges<R: Rows>(out: &mut Vec<u8>, k: u32, rows: &R) -> Result<(), AllocError>
+    ensures ok { OnOk result (out.new.items ≡ out.old.items ++ edges_lines k (R.rows rows.now)) }
+    ensures begins { take (vec_len out.old) out.new.items ≡ out.old.items }
+{
+    append_number(out, b"edges ", u64::from(k))?;
+    append_named(out, b" ", count_edges(rows))?;
+    append_rows(out, rows)
+}
+
+/// A line for each edge of the rows.
+fn append_rows<R: Rows>(out: &mut Vec<u8>, rows: &R) -> Result<(), AllocError>
+    ensures ok { OnOk result (out.new.items ≡ out.old.items ++ edge_lines 0 (R.rows rows.now)) }
+    ensures begins { take (vec_len out.old) out.new.items ≡ out.old.items }
+{
+    for v in 0..rows.count() {
+        append_edges_of(out, rows, v, rows.start(v))?;
+    }
+    Ok(())
+}
+
+/// A line for each edge of the row of `u` from a place on.
+fn append_edges_of<R: Rows>(
+    out: &mut Vec<u8>,
+    rows: &R,
+    u: u32,
+    start: R::At,
+) -> Result<(), AllocError>
+    requires { R.is_place rows.now start }
+    ensures ok { OnOk result (out.new.items ≡ out.old.items ++ flat_map (edge_line u) (R.suffix rows.now start)) }
+    ensures begins { take (vec_len out.old) out.new.items ≡ out.old.items }
+{
+    let mut at = start;
+    while let Some((target, weight, rest)) = rows.next(at) {
+        append_edge(out, u, target, weight)?;
+        at = rest;
+    }
+    Ok(())
+}
+
+fn append_edge(out: &mut Vec<u8>, u: u32, target: u32, weight: u64) -> Result<(), AllocError>
+    ensures ok { OnOk result (out.new.items ≡ out.old.items ++ edge_line u (target, weight)) }
+    ensures begins { take (vec_len out.old) out.new.items ≡ out.old.items }
+{
+    append_number(out, b"", u64::from(u))?;
+    append_number(out, b" ", u64::from(target))?;
+    append_named(out, b" ", weight)
 }

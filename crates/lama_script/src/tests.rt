@@ -4,7 +4,7 @@ ghost use Rattle.std.specs.Prelude.{◌≤◌, List, [], ◌∷◌, drop};
 
 use crate::item::{Item, ScriptFault};
 use crate::parser::Parser;
-use crate::printers::{print_reply, print_row};
+use crate::printers::{print_edges, print_reply, print_row};
 use lama_model::{Command, Read, Refusal, Reply, Rows, Write};
 use std::alloc::AllocError;
 
@@ -24,6 +24,21 @@ fn vertices(count: u32) -> Answer {
 
 fn add(source: u32, target: u32, weight: u64) -> Answer {
     says(Command::Write(Write::Add(source, target, weight)))
+}
+
+fn del(source: u32, target: u32) -> Answer {
+    says(Command::Write(Write::Remove(source, target)))
+}
+
+fn weigh(source: u32, target: u32, weight: u64) -> Answer {
+    says(Command::Write(Write::Weigh(source, target, weight)))
+}
+
+fn edges(at: Option<u32>) -> Answer {
+    says(Command::Read {
+        at,
+        what: Read::Edges,
+    })
 }
 
 fn row(v: u32) -> Answer {
@@ -54,6 +69,8 @@ fn a_number_behind_an_at_sign_names_a_snapshot(rt: HostRuntime) {
     assert_eq!(rt; answer(b"@7 @7 row 0"), BAD);
     assert_eq!(rt; answer(b"@7 checkpoint"), BAD);
     assert_eq!(rt; answer(b"7 row 0"), BAD);
+    assert_eq!(rt; answer(b"@7 edges"), edges(Some(7)));
+    assert_eq!(rt; answer(b"@7 del 0 1"), BAD);
 }
 
 fn answer(line: &[u8]) -> Answer {
@@ -94,8 +111,16 @@ fn each_command_has_its_words(rt: HostRuntime) {
     assert_eq!(rt; answer(b"add 2 3 5"), add(2, 3, 5));
     assert_eq!(rt; answer(b"add 2"), BAD);
     assert_eq!(rt; answer(b"add 2 3 5 7"), BAD);
+    assert_eq!(rt; answer(b"del 2 3"), del(2, 3));
+    assert_eq!(rt; answer(b"del 2"), BAD);
+    assert_eq!(rt; answer(b"del 2 3 5"), BAD);
+    assert_eq!(rt; answer(b"weigh 2 3 4294967295"), weigh(2, 3, 4_294_967_295));
+    assert_eq!(rt; answer(b"weigh 2 3"), BAD);
+    assert_eq!(rt; answer(b"weigh 2 3 5 7"), BAD);
     assert_eq!(rt; answer(b"checkpoint"), says(Command::Checkpoint));
     assert_eq!(rt; answer(b"checkpoint 1"), BAD);
+    assert_eq!(rt; answer(b"edges"), edges(None));
+    assert_eq!(rt; answer(b"edges 1"), BAD);
     assert_eq!(rt; answer(b"row 2"), row(2));
     assert_eq!(rt; answer(b"row"), BAD);
     assert_eq!(rt; answer(b"row 2 3"), BAD);
@@ -217,5 +242,32 @@ fn rows_print_newest_first(rt: HostRuntime) -> Result<(), AllocError> {
         out.as_slice(),
         b"row 1 0 : 2/1 1/1\nrow 10 2 :\n".as_slice()
     );
+    Ok(())
+}
+
+#[test]
+fn edges_are_counted_and_print_source_target_and_weight(rt: HostRuntime) -> Result<(), AllocError> {
+    let mut out = Vec::new(rt.alloc());
+    print_edges(&mut out, 4, &Fork)?;
+    assert_eq!(rt; out.as_slice(), b"edges 4 2\n0 2 1\n0 1 1\n".as_slice());
+    Ok(())
+}
+
+#[test]
+fn accepted_deletions_and_weights_print_nothing(rt: HostRuntime) -> Result<(), AllocError> {
+    let mut out = Vec::new(rt.alloc());
+    let del = Command::Write(Write::Remove(0, 1));
+    let weigh = Command::Write(Write::Weigh(0, 1, 5));
+    let unknown = Refusal::UnknownVertex {
+        vertex: 7,
+        count: 3,
+    };
+    print_reply(&mut out, &del, &Reply::Accepted)?;
+    print_reply(&mut out, &weigh, &Reply::Accepted)?;
+    assert_eq!(rt; out.len(), 0);
+    print_reply(&mut out, &del, &Reply::Refused(unknown))?;
+    print_reply(&mut out, &weigh, &Reply::Refused(unknown))?;
+    let text = b"unknown vertex 7 of 3\nunknown vertex 7 of 3\n";
+    assert_eq!(rt; out.as_slice(), text.as_slice());
     Ok(())
 }

@@ -1,5 +1,5 @@
 -- Numbers that come up where a base is built.
-use Rattle.std.proofs.Common.{◌≡◌, ◌≢◌, ◌∙◌, ℕ, ◌+◌, ◌*◌, ◌/◌, ◌%◌, ◌<◌, ◌≤◌, List, length, take, ap, sym, arith, subst, Bool, true, false, cond, eqb}
+use Rattle.std.proofs.Common.{◌≡◌, ◌≢◌, ◌∙◌, ℕ, ◌+◌, ◌*◌, ◌/◌, ◌%◌, ◌<◌, ◌≤◌, List, length, take, replicate, ap, sym, arith, subst, Bool, true, false, cond, eqb}
 use Rattle.std.proofs.lemmas.Bool.{false≢true}
 use Rattle.std.proofs.lemmas.Bool.Decides.{nat_tests}
 use Rattle.std.proofs.lemmas.List.{length-take-le, length-take}
@@ -29,6 +29,10 @@ pages-record p p' p'' p0 a b v n m made inv le lt one = omega arith
 pub pages-all : (p p0 z n m : ℕ) → p ≡ p0 + 2 * ((z + 255) / 256) + (n + 255) / 256 → z ≤ m + n → p ≤ p0 + (n / 256 + 2 * ((m + n) / 256) + 8)
 pages-all p p0 z n m inv le = omega arith
 
+-- and with the page of the marks
+pub pages-marked : (p p' p0 z n m : ℕ) → p' ≤ p + 1 → p ≡ p0 + 2 * ((z + 255) / 256) + (n + 255) / 256 → z ≤ m + n → p' ≤ p0 + (n / 256 + 2 * ((m + n) / 256) + 8)
+pages-marked p p' p0 z n m one inv le = omega arith
+
 -- one page at each 256th record
 pub pages-step : (v : ℕ) (b : Bool) → eqb (v % 256) 0 ≡ b → (v + 1 + 255) / 256 ≡ (v + 255) / 256 + cond b 1 0
 pages-step v true h = let is : v % 256 ≡ 0 = grind (arith, nat_tests, h) in omega arith
@@ -52,8 +56,8 @@ built n records slots weights rows r s w =
     ap (λ rs. base_rows rs slots weights) r ∙ (ap (λ ss. base_rows (base_records n 0 rows) ss weights) s ∙ (ap (base_rows (base_records n 0 rows) (base_slots rows)) w ∙ base_rows-are n rows))
 
 -- the fields of a base that was built
-pub is-base : (n : ℕ) (records : List VertexRec) (slots : List Slot) (weights : List ℕ) (rows : List (List (ℕ × ℕ))) → records ≡ base_records n 0 rows → slots ≡ base_slots rows → weights ≡ base_weights rows →
-    AreTargetsBelow (length rows) rows → edges_in rows ≤ 33554432 → length rows ≤ 4194304 → n ≤ 100000000 → IsBase n records slots weights (base_rows records slots weights)
-is-base n records slots weights rows r s w targets few vertices number =
-    subst (IsBase n records slots weights) (sym (built n records slots weights rows r s w))
-    (record { records_are = r; slots_are = s; weights_are = w; targets = targets; few = few; vertices = vertices; number = number })
+pub is-base : (n : ℕ) (records : List VertexRec) (slots : List Slot) (marks weights : List ℕ) (rows : List (List (ℕ × ℕ))) → records ≡ base_records n 0 rows → slots ≡ base_slots rows → marks ≡ replicate (length slots) 0 → weights ≡ base_weights rows →
+    AreTargetsBelow (length rows) rows → edges_in rows ≤ 33554432 → length rows ≤ 4194304 → n ≤ 100000000 → IsBase n records slots marks weights (base_rows records slots weights)
+is-base n records slots marks weights rows r s m w targets few vertices number =
+    subst (IsBase n records slots marks weights) (sym (built n records slots weights rows r s w))
+    (record { records_are = r; slots_are = s; marks_are = m ∙ ap (λ (xs : List Slot). replicate (length xs) 0) s; weights_are = w; targets = targets; few = few; vertices = vertices; number = number })

@@ -6,32 +6,34 @@ use Rattle.std.proofs.lemmas.Bool.{cases_eq, false≢true}
 use Rattle.std.proofs.lemmas.Bool.Decides.{nat_tests}
 use Rattle.lama_edges.specs.declared.records.VertexRec.{VertexRec}
 use Rattle.lama_model.specs.Row.{row_at}
-use Rattle.lama_snapshot.specs.Fragments.{row_from}
-use Rattle.lama_snapshot.specs.BaseRows.{base_suffix}
-use Rattle.lama_snapshot.specs.Chains.{no_table, Layout, after_fragment, chain, record_row, place_row, rows_from}
+use Rattle.lama_snapshot.specs.declared.level.Cell.{Cell}
+use Rattle.lama_snapshot.specs.Cells.{Columns, cells_from, visible}
+use Rattle.lama_snapshot.specs.Chains.{no_table, Layout, after_fragment, chain, record_row, place_row, base_places, base_cells, cells_of, rows_from}
 use Rattle.lama_snapshot.specs.Snap.{no_record}
 
 -- the floor is the whole row in the base
-pub chain-base : (l : Layout) (v n o len : ℕ) → chain l v n 0 o len ≡ Some (row_at l.base v)
+pub chain-base : (l : Layout) (v n o len : ℕ) → chain l v n 0 o len ≡ Some (base_places l.base v)
 chain-base l v zero o len = refl
 chain-base l v (suc n) o len =
     let other : eqb 0 (suc n) ≡ false = grind (arith, nat_tests) in
-    ap (λ b. cond b (row_from (get_or l.levels n no_table).slots (get_or l.levels n no_table).weights (after_fragment l.floor n (chain l v n)) o len) (chain l v n 0 o len)) other ∙ chain-base l v n o len
+    ap (λ b. cond b (cells_from (suc n) (get_or l.levels n no_table).slots (after_fragment l.floor n (chain l v n)) o len) (chain l v n 0 o len)) other ∙ chain-base l v n o len
 
 -- a level above it is read where it stands
-pub chain-at : (l : Layout) (v n r o len : ℕ) → r < n → chain l v n (r + 1) o len ≡ (let t = get_or l.levels r no_table in row_from t.slots t.weights (after_fragment l.floor r (chain l v r)) o len)
+pub chain-at : (l : Layout) (v n r o len : ℕ) → r < n → chain l v n (r + 1) o len ≡ cells_from (r + 1) (get_or l.levels r no_table).slots (after_fragment l.floor r (chain l v r)) o len
 chain-at l v zero r o len lt = absurd (omega arith)
 chain-at l v (suc n) r o len lt = by (cases_eq r n) (λ (ne : r ≢ n). chain-at l v n r o len (omega arith))
   where
-    by : (r ≡ n) ⊎ (r ≢ n) → (r ≢ n → chain l v n (r + 1) o len ≡ (let t = get_or l.levels r no_table in row_from t.slots t.weights (after_fragment l.floor r (chain l v r)) o len)) →
-        chain l v (suc n) (r + 1) o len ≡ (let t = get_or l.levels r no_table in row_from t.slots t.weights (after_fragment l.floor r (chain l v r)) o len)
+    by : (r ≡ n) ⊎ (r ≢ n) → (r ≢ n → chain l v n (r + 1) o len ≡ cells_from (r + 1) (get_or l.levels r no_table).slots (after_fragment l.floor r (chain l v r)) o len) →
+        chain l v (suc n) (r + 1) o len ≡ cells_from (r + 1) (get_or l.levels r no_table).slots (after_fragment l.floor r (chain l v r)) o len
     by (inl is) rest =
         let here : eqb (r + 1) (suc n) ≡ true = grind (arith, nat_tests) in
-        ap (λ b. cond b (row_from (get_or l.levels n no_table).slots (get_or l.levels n no_table).weights (after_fragment l.floor n (chain l v n)) o len) (chain l v n (r + 1) o len)) here
-        ∙ ap (λ k. row_from (get_or l.levels k no_table).slots (get_or l.levels k no_table).weights (after_fragment l.floor k (chain l v k)) o len) (sym is)
+        let one : suc n ≡ n + 1 = omega arith in
+        ap (λ b. cond b (cells_from (suc n) (get_or l.levels n no_table).slots (after_fragment l.floor n (chain l v n)) o len) (chain l v n (r + 1) o len)) here
+        ∙ (ap (λ k. cells_from k (get_or l.levels n no_table).slots (after_fragment l.floor n (chain l v n)) o len) one
+        ∙ ap (λ k. cells_from (k + 1) (get_or l.levels k no_table).slots (after_fragment l.floor k (chain l v k)) o len) (sym is))
     by (inr ne) rest =
         let other : eqb (r + 1) (suc n) ≡ false = grind (arith, nat_tests) in
-        ap (λ b. cond b (row_from (get_or l.levels n no_table).slots (get_or l.levels n no_table).weights (after_fragment l.floor n (chain l v n)) o len) (chain l v n (r + 1) o len)) other ∙ rest ne
+        ap (λ b. cond b (cells_from (suc n) (get_or l.levels n no_table).slots (after_fragment l.floor n (chain l v n)) o len) (chain l v n (r + 1) o len)) other ∙ rest ne
 
 -- the levels above the ones that are looked at don't matter
 pub chain-levels : (l : Layout) (v n m r o len : ℕ) → r ≤ n → n ≤ m → chain l v m r o len ≡ chain l v n r o len
@@ -41,19 +43,19 @@ chain-levels l v n m (suc r) o len le up =
     ap (λ k. chain l v m k o len) is ∙ (chain-at l v m r o len (omega arith) ∙ (sym (chain-at l v n r o len (omega arith)) ∙ ap (λ k. chain l v n k o len) (sym is)))
 
 -- at a place up to the floor, and above it
-pub place-low : (l : Layout) (v level o left : ℕ) → level ≤ l.floor → place_row l v level o left ≡ base_suffix l.base o left
+pub place-low : (l : Layout) (v level o left : ℕ) → level ≤ l.floor → place_row l v level o left ≡ base_cells l.base o left
 place-low l v level o left le =
     let t : leb level l.floor ≡ true = grind (arith, nat_tests) in
-    ap (λ b. cond b (base_suffix l.base o left) (chain l v (length l.levels) (level - l.floor) o left)) t
+    ap (λ b. cond b (base_cells l.base o left) (chain l v (length l.levels) (level - l.floor) o left)) t
 
 pub place-high : (l : Layout) (v level o left : ℕ) → l.floor < level → place_row l v level o left ≡ chain l v (length l.levels) (level - l.floor) o left
 place-high l v level o left lt =
     let t : leb level l.floor ≡ false = grind (arith, nat_tests) in
-    ap (λ b. cond b (base_suffix l.base o left) (chain l v (length l.levels) (level - l.floor) o left)) t
+    ap (λ b. cond b (base_cells l.base o left) (chain l v (length l.levels) (level - l.floor) o left)) t
 
 -- the fragment at a place above the floor
-pub place-at : (l : Layout) (v level o left : ℕ) → l.floor < level → level ≤ l.floor + length l.levels → (let r = level - l.floor - 1 in let t = get_or l.levels r no_table in
-    place_row l v level o left ≡ row_from t.slots t.weights (after_fragment l.floor r (chain l v r)) o left)
+pub place-at : (l : Layout) (v level o left : ℕ) → l.floor < level → level ≤ l.floor + length l.levels → (let r = level - l.floor - 1 in
+    place_row l v level o left ≡ cells_from (r + 1) (get_or l.levels r no_table).slots (after_fragment l.floor r (chain l v r)) o left)
 place-at l v level o left lt within =
     let r = level - l.floor - 1 in
     let is : level - l.floor ≡ r + 1 = omega arith in
@@ -83,23 +85,32 @@ length-map' : {A B : Type 0} (f : A → B) (xs : List A) → length (map f xs) �
 length-map' f [] = refl
 length-map' f (x ∷ xs) = ap (λ m. suc m) (length-map' f xs)
 
-pub length-rows_from : (l : Layout) (records : List VertexRec) → length (rows_from l records) ≡ length records
-length-rows_from l records = length-map' (λ v. unwrap_or (record_row l v (get_or records v no_record)) []) (range_with_len 0 (length records)) ∙ range-length 0 (length records)
+pub length-cells_of : (l : Layout) (records : List VertexRec) → length (cells_of l records) ≡ length records
+length-cells_of l records = length-map' (λ v. unwrap_or (record_row l v (get_or records v no_record)) []) (range_with_len 0 (length records)) ∙ range-length 0 (length records)
 
-pub rows_from-at : (l : Layout) (records : List VertexRec) (v : ℕ) → v < length records → row_at (rows_from l records) v ≡ unwrap_or (record_row l v (get_or records v no_record)) []
-rows_from-at l records v lt =
+pub cells_of-at : (l : Layout) (records : List VertexRec) (v : ℕ) → v < length records → get_or (cells_of l records) v [] ≡ unwrap_or (record_row l v (get_or records v no_record)) []
+cells_of-at l records v lt =
     let n = range-length 0 (length records) in
     get-map (λ v. unwrap_or (record_row l v (get_or records v no_record)) []) (range_with_len 0 (length records)) v 0 [] (omega (arith, n))
     ∙ ap (λ k. unwrap_or (record_row l k (get_or records k no_record)) []) (range-get 0 (length records) v 0 lt ∙ omega arith)
+
+pub length-rows_from : (l : Layout) (cols : Columns) (records : List VertexRec) → length (rows_from l cols records) ≡ length records
+length-rows_from l cols records = length-map' (visible cols) (cells_of l records) ∙ length-cells_of l records
+
+-- a row as it is read, also past the last one
+pub row-visible : (cols : Columns) (cells : List (List (ℕ × Cell))) (v : ℕ) → row_at (map (visible cols) cells) v ≡ visible cols (get_or cells v [])
+row-visible cols [] v = refl
+row-visible cols (x ∷ xs) zero = refl
+row-visible cols (x ∷ xs) (suc v) = row-visible cols xs v
 
 pub some-is : {A : Type 0} (o : Option A) (d x : A) → IsSome o → unwrap_or o d ≡ x → o ≡ Some x
 some-is None d x h is = absurd (false≢true h)
 some-is (Some y) d x h is = ap (λ z. Some z) is
 
 -- a place in the base for a record that leads there
-pub place-base : (l : Layout) (v level o left lv o' len : ℕ) (rows : List (List (ℕ × ℕ))) → level ≤ l.floor → lv ≤ l.floor → l.base ≡ rows → base_suffix rows o left ≡ Some (row_at rows v) →
+pub place-base : (l : Layout) (v level o left lv o' len : ℕ) (rows : List (List (ℕ × ℕ))) → level ≤ l.floor → lv ≤ l.floor → l.base ≡ rows → base_cells rows o left ≡ Some (base_places rows v) →
     place_row l v level o left ≡ chain l v (length l.levels) (lv - l.floor) o' len
 place-base l v level o left lv o' len rows le le' is reads =
     let none : lv - l.floor ≡ 0 = omega arith in
     place-low l v level o left le
-    ∙ (ap (λ rs. base_suffix rs o left) is ∙ (reads ∙ (ap (λ rs. Some (row_at rs v)) (sym is) ∙ sym (ap (λ k. chain l v (length l.levels) k o' len) none ∙ chain-base l v (length l.levels) o' len))))
+    ∙ (ap (λ rs. base_cells rs o left) is ∙ (reads ∙ (ap (λ rs. Some (base_places rs v)) (sym is) ∙ sym (ap (λ k. chain l v (length l.levels) k o' len) none ∙ chain-base l v (length l.levels) o' len))))

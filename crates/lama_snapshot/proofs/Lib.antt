@@ -1,9 +1,17 @@
 pub mod RowFrom
-pub mod BuildLemmas
+pub mod CellsFrom
 pub mod ChainLemmas
 pub mod StepLemmas
 pub mod NextLemmas
+pub mod BuildLemmas
+pub mod Limits
+pub mod Standing
+pub mod Surviving
+pub mod Nested
+pub mod Walks
+pub mod Known
+pub mod BaseSnap
 pub mod WriteLemmas
 pub mod Applied
-pub mod Limits
-mod SnapAfter
+pub mod SnapAfter
+pub mod Change

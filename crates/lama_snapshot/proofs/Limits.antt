@@ -1,19 +1,22 @@
 -- Numbers of edges and slots, by changes and by rows.
-use Rattle.std.proofs.Common.{◌≡◌, ◌∙◌, ℕ, zero, suc, ◌+◌, ◌-◌, ◌*◌, ◌/◌, ◌<◌, ◌≤◌, List, [], ◌∷◌, length, get_or, refl, sym, ap, subst, arith, Bool, true, false, eqb, ◌&&◌}
+use Rattle.std.proofs.Common.{◌≡◌, ◌∙◌, ℕ, zero, suc, ◌+◌, ◌-◌, ◌*◌, ◌/◌, ◌<◌, ◌≤◌, List, [], ◌∷◌, length, get_or, map, refl, sym, ap, subst, arith, inl, inr, ◌⊎◌, Bool, true, false, eqb, ◌&&◌}
 use Rattle.std.specs.Prelude.{All, sum_by, IsTrue, ◌↔◌}
-use Rattle.std.proofs.lemmas.Bool.{false≢true}
-use Rattle.std.proofs.lemmas.List.Elements.{All-head, All-tail, All-nil, All-weaker}
+use Rattle.std.specs.List.Sorted.{IsStrictlyIncreasing}
+use Rattle.std.proofs.lemmas.Bool.{false≢true, cases_lt}
+use Rattle.std.proofs.lemmas.List.{length-map, get_or_default}
+use Rattle.std.proofs.lemmas.List.Elements.{All-head, All-tail}
 use Rattle.std.proofs.lemmas.List.Sums.{sum_by-cons}
+use Rattle.std.proofs.lemmas.List.Kept.{AllPairs-from_increasing}
 use Rattle.lama_edges.specs.declared.records.VertexRec.{VertexRec}
-use Rattle.lama_model.specs.Row.{row_at, edges_in}
+use Rattle.lama_model.specs.Row.{edges_in}
 use Rattle.lama_model.specs.Change.{RowChange, Change, IsRowChange, is_empty_change}
-use Rattle.lama_model.specs.Bounds.{added_edges, killed_edges, set_edges, checkpoint_pages}
+use Rattle.lama_model.specs.Bounds.{touched, added_edges, killed_edges, set_edges, checkpoint_pages}
 use Rattle.lama_model.specs.Fits.{Fits, HasIndexes}
-use Rattle.lama_delta.specs.Seen.{OnlyAdds, IsSeenChange}
+use Rattle.lama_snapshot.specs.Cells.{Columns}
 use Rattle.lama_snapshot.specs.Chains.{Layout, IsRecord, rows_from}
 use Rattle.lama_snapshot.specs.Snap.{no_record}
 use Rattle.lama_snapshot.specs.Written.{slots_of, pages_for}
-use Rattle.lama_snapshot.proofs.ChainLemmas.{length-rows_from}
+use Rattle.lama_snapshot.proofs.ChainLemmas.{length-rows_from, get-map}
 use Rattle.lama_snapshot.proofs.StepLemmas.{record-row}
 
 -- a slot for each edge and one for each tail
@@ -25,38 +28,36 @@ slots-sum (c ∷ rows) =
     let d = slots-sum rows in
     omega (arith, a, b, d)
 
--- a row that only gets edges gets one at least
-adds-some : (c : RowChange) → OnlyAdds c → is_empty_change c ≡ false → 0 < length c.added
-adds-some c h some = by (length c.added) refl
+-- a row change names one edge at least
+says-some : (c : RowChange) → is_empty_change c ≡ false → 0 < length c.added + length c.killed + length c.set
+says-some c some = by (length c.added) (length c.killed) (length c.set) refl refl refl
   where
-    by : (n : ℕ) → length c.added ≡ n → 0 < length c.added
-    by zero is = absurd (false≢true (sym some ∙ (ap (λ k. (eqb k 0 && eqb (length c.killed) 0) && eqb (length c.set) 0) is ∙ (ap (λ (ks : List ℕ). (true && eqb (length ks) 0) && eqb (length c.set) 0) h.killed ∙ ap (λ (ss : List (ℕ × ℕ)). eqb (length ss) 0) h.set))))
-    by (suc n) is = omega (arith, is)
+    by : (a k s : ℕ) → length c.added ≡ a → length c.killed ≡ k → length c.set ≡ s → 0 < length c.added + length c.killed + length c.set
+    by zero zero zero ea ek es = absurd (false≢true (sym some ∙ (ap (λ n. (eqb n 0 && eqb (length c.killed) 0) && eqb (length c.set) 0) ea ∙ (ap (λ n. (true && eqb n 0) && eqb (length c.set) 0) ek ∙ ap (λ n. eqb n 0) es))))
+    by (suc a) k s ea ek es = omega (arith, ea)
+    by zero (suc k) s ea ek es = omega (arith, ek)
+    by zero zero (suc s) ea ek es = omega (arith, es)
 
-pub rows-added : (count : ℕ) (rows : List RowChange) → All (IsRowChange count) rows → All OnlyAdds rows → length rows ≤ sum_by (λ (c : RowChange). length c.added) rows
-rows-added count [] valid adds = omega arith
-rows-added count (c ∷ rows) valid adds =
+pub rows-said : (count : ℕ) (rows : List RowChange) → All (IsRowChange count) rows → length rows ≤ sum_by (λ (c : RowChange). length c.added) rows + sum_by (λ (c : RowChange). length c.killed) rows + sum_by (λ (c : RowChange). length c.set) rows
+rows-said count [] valid = omega arith
+rows-said count (c ∷ rows) valid =
     let a = sum_by-cons (λ (c : RowChange). length c.added) c rows in
-    let b = adds-some c (All-head OnlyAdds c rows adds) (All-head (IsRowChange count) c rows valid).some in
-    let d = rows-added count rows (All-tail (IsRowChange count) c rows valid) (All-tail OnlyAdds c rows adds) in
-    omega (arith, a, b, d)
+    let k = sum_by-cons (λ (c : RowChange). length c.killed) c rows in
+    let s = sum_by-cons (λ (c : RowChange). length c.set) c rows in
+    let some = says-some c (All-head (IsRowChange count) c rows valid).some in
+    let rest = rows-said count rows (All-tail (IsRowChange count) c rows valid) in
+    omega (arith, a, k, s, some, rest)
 
--- what only adds kills and sets nothing
-pub none-killed : (rows : List RowChange) → All OnlyAdds rows → sum_by (λ (c : RowChange). length c.killed) rows ≡ 0
-none-killed [] adds = refl
-none-killed (c ∷ rows) adds =
-    let a = sum_by-cons (λ (c : RowChange). length c.killed) c rows in
-    let b = ap length (All-head OnlyAdds c rows adds).killed in
-    let d = none-killed rows (All-tail OnlyAdds c rows adds) in
-    omega (arith, a, b, d)
-
-pub none-set : (rows : List RowChange) → All OnlyAdds rows → sum_by (λ (c : RowChange). length c.set) rows ≡ 0
-none-set [] adds = refl
-none-set (c ∷ rows) adds =
-    let a = sum_by-cons (λ (c : RowChange). length c.set) c rows in
-    let b = ap length (All-head OnlyAdds c rows adds).set in
-    let d = none-set rows (All-tail OnlyAdds c rows adds) in
-    omega (arith, a, b, d)
+-- the three sums are one
+pub three-sums : (rows : List RowChange) → sum_by (λ (c : RowChange). length c.added + length c.killed + length c.set) rows ≡ sum_by (λ (c : RowChange). length c.added) rows + sum_by (λ (c : RowChange). length c.killed) rows + sum_by (λ (c : RowChange). length c.set) rows
+three-sums [] = refl
+three-sums (c ∷ rows) =
+    let all = sum_by-cons (λ (c : RowChange). length c.added + length c.killed + length c.set) c rows in
+    let a = sum_by-cons (λ (c : RowChange). length c.added) c rows in
+    let k = sum_by-cons (λ (c : RowChange). length c.killed) c rows in
+    let s = sum_by-cons (λ (c : RowChange). length c.set) c rows in
+    let rest = three-sums rows in
+    omega (arith, all, a, k, s, rest)
 
 -- two sums that agree place by place
 sum-pointwise : {A B : Type 0} (f : A → ℕ) (g : B → ℕ) (d : A) (e : B) (xs : List A) (ys : List B) → length xs ≡ length ys → ((k : ℕ) → k < length xs → f (get_or xs k d) ≡ g (get_or ys k e)) → sum_by f xs ≡ sum_by g ys
@@ -71,39 +72,75 @@ sum-pointwise f g d e (x ∷ xs) (y ∷ ys) same each =
     omega (arith, a, b, first, rest)
 
 -- the rows have as many edges as the records say
-pub edges-records : (l : Layout) (records : List VertexRec) → ((v : ℕ) → v < length records → IsRecord l v (get_or records v no_record)) → edges_in (rows_from l records) ≡ sum_by (λ (r : VertexRec). r.degree) records
-edges-records l records ok =
-    let n = length-rows_from l records in
-    sum-pointwise (λ (r : List (ℕ × ℕ)). length r) (λ (r : VertexRec). r.degree) [] no_record (rows_from l records) records n
-    (λ v lt. let lt' : v < length records = omega (arith, lt, n) in sym (record-row l records v (get_or records v no_record) lt' refl (ok v lt')).1)
+pub edges-records : (l : Layout) (cols : Columns) (records : List VertexRec) → ((v : ℕ) → v < length records → IsRecord l cols v (get_or records v no_record)) → edges_in (rows_from l cols records) ≡ sum_by (λ (r : VertexRec). r.degree) records
+edges-records l cols records ok =
+    let n = length-rows_from l cols records in
+    sum-pointwise (λ (r : List (ℕ × ℕ)). length r) (λ (r : VertexRec). r.degree) [] no_record (rows_from l cols records) records n
+    (λ v lt. let lt' : v < length records = omega (arith, lt, n) in sym (record-row l cols records v (get_or records v no_record) lt' refl (ok v lt')).degree)
 
--- a change that only adds fits where its numbers do
-pub fits-adds : (number : ℕ) (rows : List (List (ℕ × ℕ))) (c : Change) → IsSeenChange c → c.number ≡ number + 1 → c.number ≤ 100000000 → length rows ≤ c.count → c.count ≤ 4194304 → edges_in rows + added_edges c ≤ 33554432 → Fits number rows c
-fits-adds number rows c h next limit grows vertices edges =
-    let k = none-killed c.rows h.only_adds in
-    let s = none-set c.rows h.only_adds in
-    record {
-      next = next;
-      limit = limit;
-      grows = grows;
-      vertices = vertices;
-      indexes = All-weaker OnlyAdds (HasIndexes rows) (λ r o. record {
-        killed = subst (All (λ k. k < length (row_at rows r.source))) (sym o.killed) (All-nil (λ k. k < length (row_at rows r.source)));
-        set = subst (All (λ (p : ℕ × ℕ). p.0 < length (row_at rows r.source))) (sym o.set) (All-nil (λ (p : ℕ × ℕ). p.0 < length (row_at rows r.source)));
-      }) c.rows h.only_adds;
-      edges = omega (arith, edges, k);
-      touched = omega (arith, edges, k, s);
-    }
+-- indexes that rise below n are n at most
+rise-index : (ks : List ℕ) → IsStrictlyIncreasing ks → (k : ℕ) → k < length ks → k ≤ get_or ks k 0
+rise-index ks rises zero lt = omega arith
+rise-index ks rises (suc k) lt =
+    let before = rise-index ks rises k (omega arith) in
+    let step = AllPairs-from_increasing ks rises k (suc k) 0 (omega arith) lt in
+    omega (arith, before, step)
 
-pub fits-iff : (number k : ℕ) (b : Bool) (rows : List (List (ℕ × ℕ))) (c : Change) → IsSeenChange c → c.number ≡ number + 1 → c.number ≤ 100000000 → length rows ≤ c.count → c.count ≤ 4194304 → k ≡ edges_in rows → k ≤ 33554432 →
-    (IsTrue b ↔ (added_edges c ≤ 33554432 - k)) → (IsTrue b → Fits number rows c) × (Fits number rows c → IsTrue b)
-fits-iff number k b rows c h next limit grows vertices is few tells =
-    let none = none-killed c.rows h.only_adds in
-    (λ t. fits-adds number rows c h next limit grows vertices (let a = tells.0 t in omega (arith, a, is, few)), λ f. tells.1 (let e = f.edges in omega (arith, e, is, few, none)))
+pub rising-few : (ks : List ℕ) (n : ℕ) → IsStrictlyIncreasing ks → All (λ k. k < n) ks → length ks ≤ n
+rising-few ks n rises below = by (length ks) refl
+  where
+    by : (m : ℕ) → length ks ≡ m → length ks ≤ n
+    by zero is = omega (arith, is)
+    by (suc m) is =
+        let lt : m < length ks = omega (arith, is) in
+        let at = rise-index ks rises m lt in
+        let top = below m 0 lt in
+        omega (arith, is, at, top)
+
+-- pages of a level
+pub level-le : (p p' p0 : ℕ) (c : Change) → p ≤ p0 + 2 → p' ≤ p + length c.rows + pages_for (slots_of c.rows) → p' ≤ p0 + touched c + pages_for (added_edges c + touched c) + 2
+level-le p p' p0 c extended written =
+    let w = subst (λ z. p' ≤ p + length c.rows + pages_for z) (slots-sum c.rows) written in
+    by (pages_for (added_edges c + length c.rows)) w
+  where
+    by : (z : ℕ) → p' ≤ p + length c.rows + z → p' ≤ p0 + length c.rows + z + 2
+    by z w = omega (arith, extended, w)
 
 -- pages of a checkpoint
-pub checkpoint-le : (p p' p0 : ℕ) (c : Change) → p ≤ p0 + 2 → p' ≤ p + length c.rows + pages_for (slots_of c.rows) → p' ≤ p0 + checkpoint_pages c
-checkpoint-le p p' p0 c extended written = let s = slots-sum c.rows in by (slots_of c.rows) (added_edges c) (length c.rows) (killed_edges c) (set_edges c) s extended written
+pub checkpoint-le : (p0 p1 p2 p3 p4 : ℕ) (c : Change) → p1 ≤ p0 + killed_edges c → p2 ≤ p1 + set_edges c → p3 ≤ p2 + touched c + pages_for (added_edges c + touched c) + 2 → p4 ≤ p3 + 1 → p4 ≤ p0 + checkpoint_pages c
+checkpoint-le p0 p1 p2 p3 p4 c hidden weighed level marked = by (touched c) (added_edges c) (killed_edges c) (set_edges c) hidden weighed level
   where
-    by : (z a n k s : ℕ) → z ≡ a + n → p ≤ p0 + 2 → p' ≤ p + n + 2 * ((z + 255) / 256) → p' ≤ p0 + (n + k + s + 2 * ((a + n) / 256) + 8)
-    by z a n k s is extended written = let w : (z + 255) / 256 ≡ (a + n + 255) / 256 = ap (λ x. (x + 255) / 256) is in omega (arith, w, extended, written)
+    by : (n a k s : ℕ) → p1 ≤ p0 + k → p2 ≤ p1 + s → p3 ≤ p2 + n + 2 * ((a + n + 255) / 256) + 2 → p4 ≤ p0 + (n + k + s + 2 * ((a + n) / 256) + 8)
+    by n a k s hidden weighed level = omega (arith, hidden, weighed, level, marked)
+
+-- where the last of rising indexes is below n, all are
+pub last-below : (ks : List ℕ) (n : ℕ) → IsStrictlyIncreasing ks → 0 < length ks → get_or ks (length ks - 1) 0 < n → (k : ℕ) → k < length ks → get_or ks k 0 < n
+last-below ks n rises some last k lt = by (cases_lt k (length ks - 1))
+  where
+    by : (k < length ks - 1) ⊎ (length ks - 1 ≤ k) → get_or ks k 0 < n
+    by (inl below) = let pair = AllPairs-from_increasing ks rises k (length ks - 1) 0 below (omega arith) in omega (arith, pair, last)
+    by (inr ge) = let e : k ≡ length ks - 1 = omega (arith, ge, lt) in subst (λ i. get_or ks i 0 < n) (sym e) last
+
+pub all-below : (ks : List ℕ) (n last : ℕ) → IsStrictlyIncreasing ks → 0 < length ks → last ≡ get_or ks (length ks - 1) last → (last < n → All (λ k. k < n) ks) × (All (λ k. k < n) ks → last < n)
+all-below ks n last rises some is = (
+  λ lt k d l. subst (λ x. x < n) (get_or_default ks k 0 d l) (last-below ks n rises some (subst (λ x. x < n) (is ∙ get_or_default ks (length ks - 1) last 0 (omega arith)) lt) k l),
+  λ all. subst (λ x. x < n) (sym is) (all (length ks - 1) last (omega arith)),
+)
+
+pub all-set-below : (ps : List (ℕ × ℕ)) (n : ℕ) (last : ℕ × ℕ) → IsStrictlyIncreasing (map (λ (p : ℕ × ℕ). p.0) ps) → 0 < length ps → last ≡ get_or ps (length ps - 1) last → (last.0 < n → All (λ (p : ℕ × ℕ). p.0 < n) ps) × (All (λ (p : ℕ × ℕ). p.0 < n) ps → last.0 < n)
+all-set-below ps n last rises some is =
+    let ks = map (λ (p : ℕ × ℕ). p.0) ps in
+    let m : length ks ≡ length ps = length-map ps (λ (p : ℕ × ℕ). p.0) in
+    let at : (k : ℕ) (d : ℕ × ℕ) → k < length ps → get_or ks k 0 ≡ (get_or ps k d).0 = λ k d l. get-map (λ (p : ℕ × ℕ). p.0) ps k d 0 l in
+    let last-is : last.0 ≡ get_or ks (length ks - 1) 0 = ap (λ (p : ℕ × ℕ). p.0) is ∙ (sym (at (length ps - 1) last (omega arith)) ∙ ap (λ k. get_or ks (k - 1) 0) (sym m)) in (
+      λ lt k d l. subst (λ x. x < n) (at k d l) (last-below ks n rises (omega (arith, m, some)) (subst (λ x. x < n) last-is lt) k (omega (arith, m, l))),
+      λ all. subst (λ (p : ℕ × ℕ). p.0 < n) (sym is) (all (length ps - 1) last (omega arith)),
+    )
+
+-- a change fits where its numbers and its indexes do
+pub fits-iff : (number e : ℕ) (b : Bool) (rows : List (List (ℕ × ℕ))) (c : Change) → c.number ≡ number + 1 → c.number ≤ 100000000 → length rows ≤ c.count → c.count ≤ 4194304 → e ≡ edges_in rows → e + added_edges c ≤ 33554432 + killed_edges c →
+    added_edges c + killed_edges c + set_edges c ≤ 33554432 → (IsTrue b ↔ All (HasIndexes rows) c.rows) → (IsTrue b → Fits number rows c) × (Fits number rows c → IsTrue b)
+fits-iff number e b rows c next limit grows vertices is edges said tells = (
+  λ t. record { next = next; limit = limit; grows = grows; vertices = vertices; indexes = tells.0 t; edges = omega (arith, is, edges); touched = said },
+  λ f. tells.1 f.indexes,
+)

@@ -32,47 +32,53 @@ record_after-none n before o [] v h = refl
 record_after-none n before o (c ∷ rows) v h =
     let first = All-head (λ (c : RowChange). c.source ≢ v) c rows h in
     let other : eqb c.source v ≡ false = grind (arith, nat_tests, first) in
-    ap (λ b. cond b (record_with n o (length c.added) (get_or before v no_record)) (record_after n before (o + length c.added + 1) rows v)) other
+    ap (λ b. cond b (record_with n o (length c.added) (length c.killed) (get_or before v no_record)) (record_after n before (o + length c.added + 1) rows v)) other
     ∙ record_after-none n before (o + length c.added + 1) rows v (All-tail (λ (c : RowChange). c.source ≢ v) c rows h)
 
 -- one row more
 record_after-push : (n : ℕ) (before : List VertexRec) (o : ℕ) (rows : List RowChange) (c : RowChange) (v : ℕ) → All (λ (r : RowChange). r.source < c.source) rows →
-    record_after n before o (rows ++ c ∷ []) v ≡ cond (eqb c.source v) (record_with n (o + slots_of rows) (length c.added) (get_or before v no_record)) (record_after n before o rows v)
-record_after-push n before o [] c v h = ap (λ k. cond (eqb c.source v) (record_with n k (length c.added) (get_or before v no_record)) (get_or before v no_record)) (omega arith)
+    record_after n before o (rows ++ c ∷ []) v ≡ cond (eqb c.source v) (record_with n (o + slots_of rows) (length c.added) (length c.killed) (get_or before v no_record)) (record_after n before o rows v)
+record_after-push n before o [] c v h = ap (λ k. cond (eqb c.source v) (record_with n k (length c.added) (length c.killed) (get_or before v no_record)) (get_or before v no_record)) (omega arith)
 record_after-push n before o (r ∷ rows) c v h = by (cases_eq r.source v) (record_after-push n before (o + length r.added + 1) rows c v (All-tail (λ (r : RowChange). r.source < c.source) r rows h))
   where
     by : (r.source ≡ v) ⊎ (r.source ≢ v) →
-        record_after n before (o + length r.added + 1) (rows ++ c ∷ []) v ≡ cond (eqb c.source v) (record_with n (o + length r.added + 1 + slots_of rows) (length c.added) (get_or before v no_record)) (record_after n before (o + length r.added + 1) rows v) →
-        record_after n before o (r ∷ (rows ++ c ∷ [])) v ≡ cond (eqb c.source v) (record_with n (o + slots_of (r ∷ rows)) (length c.added) (get_or before v no_record)) (record_after n before o (r ∷ rows) v)
+        record_after n before (o + length r.added + 1) (rows ++ c ∷ []) v ≡ cond (eqb c.source v) (record_with n (o + length r.added + 1 + slots_of rows) (length c.added) (length c.killed) (get_or before v no_record)) (record_after n before (o + length r.added + 1) rows v) →
+        record_after n before o (r ∷ (rows ++ c ∷ [])) v ≡ cond (eqb c.source v) (record_with n (o + slots_of (r ∷ rows)) (length c.added) (length c.killed) (get_or before v no_record)) (record_after n before o (r ∷ rows) v)
     by (inl is) rest =
         let below = All-head (λ (r : RowChange). r.source < c.source) r rows h in
         let here : eqb r.source v ≡ true = grind (arith, nat_tests, is) in
         let other : eqb c.source v ≡ false = grind (arith, nat_tests, is, below) in
-        ap (λ b. cond b (record_with n o (length r.added) (get_or before v no_record)) (record_after n before (o + length r.added + 1) (rows ++ c ∷ []) v)) here
-        ∙ sym (ap (λ b. cond b (record_with n (o + slots_of (r ∷ rows)) (length c.added) (get_or before v no_record)) (record_after n before o (r ∷ rows) v)) other
-        ∙ ap (λ b. cond b (record_with n o (length r.added) (get_or before v no_record)) (record_after n before (o + length r.added + 1) rows v)) here)
+        ap (λ b. cond b (record_with n o (length r.added) (length r.killed) (get_or before v no_record)) (record_after n before (o + length r.added + 1) (rows ++ c ∷ []) v)) here
+        ∙ sym (ap (λ b. cond b (record_with n (o + slots_of (r ∷ rows)) (length c.added) (length c.killed) (get_or before v no_record)) (record_after n before o (r ∷ rows) v)) other
+        ∙ ap (λ b. cond b (record_with n o (length r.added) (length r.killed) (get_or before v no_record)) (record_after n before (o + length r.added + 1) rows v)) here)
     by (inr ne) rest =
         let other : eqb r.source v ≡ false = grind (arith, nat_tests, ne) in
         let e = sum_by-cons (λ (c : RowChange). length c.added + 1) r rows in
         let k : o + length r.added + 1 + slots_of rows ≡ o + slots_of (r ∷ rows) = omega (arith, e) in
-        ap (λ b. cond b (record_with n o (length r.added) (get_or before v no_record)) (record_after n before (o + length r.added + 1) (rows ++ c ∷ []) v)) other
+        ap (λ b. cond b (record_with n o (length r.added) (length r.killed) (get_or before v no_record)) (record_after n before (o + length r.added + 1) (rows ++ c ∷ []) v)) other
         ∙ (rest
-        ∙ (ap (λ m. cond (eqb c.source v) (record_with n m (length c.added) (get_or before v no_record)) (record_after n before (o + length r.added + 1) rows v)) k
-        ∙ sym (ap (λ b. cond (eqb c.source v) (record_with n (o + slots_of (r ∷ rows)) (length c.added) (get_or before v no_record)) (cond b (record_with n o (length r.added) (get_or before v no_record)) (record_after n before (o + length r.added + 1) rows v))) other)))
+        ∙ (ap (λ m. cond (eqb c.source v) (record_with n m (length c.added) (length c.killed) (get_or before v no_record)) (record_after n before (o + length r.added + 1) rows v)) k
+        ∙ sym (ap (λ b. cond (eqb c.source v) (record_with n (o + slots_of (r ∷ rows)) (length c.added) (length c.killed) (get_or before v no_record)) (cond b (record_with n o (length r.added) (length r.killed) (get_or before v no_record)) (record_after n before (o + length r.added + 1) rows v))) other)))
+
+-- a row that comes after the others still has its record
+pub record-before : (n : ℕ) (before : List VertexRec) (rows : List RowChange) (c : RowChange) (slots : List Slot) (weights : List ℕ) (records : List VertexRec) → IsWritten n before rows slots weights records → c.source < length before → All (λ (r : RowChange). r.source < c.source) rows →
+    get_or records c.source no_record ≡ get_or before c.source no_record
+record-before n before rows c slots weights records h lt below = h.records_are c.source lt ∙ record_after-none n before 0 rows c.source (λ k d l is. let b = below k d l in omega (arith, b, is))
 
 pub written-more : (n : ℕ) (before : List VertexRec) (rows : List RowChange) (c : RowChange) (slots slots' : List Slot) (weights weights' : List ℕ) (records records' : List VertexRec) →
-    IsWritten n before rows slots weights records → c.source < length before → All (λ (r : RowChange). r.source < c.source) rows →
+    IsWritten n before rows slots weights records → c.source < length before → All (λ (r : RowChange). r.source < c.source) rows → length c.killed ≤ (get_or records c.source no_record).degree →
     slots' ≡ slots ++ fragment_slots c.added (next_of (get_or records c.source no_record)) → weights' ≡ weights ++ fragment_weights c.added →
-    records' ≡ set records c.source (record_with n (length slots) (length c.added) (get_or records c.source no_record)) →
+    records' ≡ set records c.source (record_with n (length slots) (length c.added) (length c.killed) (get_or records c.source no_record)) →
     IsWritten n before (rows ++ c ∷ []) slots' weights' records'
-written-more n before rows c slots slots' weights weights' records records' h lt below s w r =
-    let old : get_or records c.source no_record ≡ get_or before c.source no_record = h.records_are c.source lt ∙ record_after-none n before 0 rows c.source (λ k d l is. let b = below k d l in omega (arith, b, is)) in
+written-more n before rows c slots slots' weights weights' records records' h lt below within s w r =
+    let old = record-before n before rows c slots weights records h lt below in
     let size : length slots ≡ 0 + slots_of rows = ap length h.slots_are ∙ (length-level_slots before rows ∙ omega arith) in
     let len = h.len in
     let lt' : c.source < length records = omega (arith, len, lt) in
-    let rec = record_with n (length slots) (length c.added) (get_or records c.source no_record) in
+    let rec = record_with n (length slots) (length c.added) (length c.killed) (get_or records c.source no_record) in
     let total = sum_by-set (λ (x : VertexRec). x.degree) records c.source rec no_record lt' in
     let more = sum_by_push (λ (x : RowChange). length x.added) rows c in
+    let gone = sum_by_push (λ (x : RowChange). length x.killed) rows c in
     let degrees = h.degrees in
     let is = ap (sum_by (λ (x : VertexRec). x.degree)) r in
     record {
@@ -84,23 +90,23 @@ written-more n before rows c slots slots' weights weights' records records' h lt
           ∙ (ap (λ xs. level_weights rows ++ xs) (sym (append-nil (fragment_weights c.added))) ∙ sym (flat_map-append (λ (c : RowChange). fragment_weights c.added) rows (c ∷ []))));
       len = ap length r ∙ (length-set records c.source rec ∙ h.len);
       records_are = λ v l. ap (λ xs. get_or xs v no_record) r ∙ (by old size lt' v l (cases_eq c.source v) ∙ sym (record_after-push n before 0 rows c v below));
-      degrees = omega (arith, is, total, more, degrees);
+      degrees = omega (arith, is, total, more, gone, degrees, within);
     }
   where
     by : get_or records c.source no_record ≡ get_or before c.source no_record → length slots ≡ 0 + slots_of rows → c.source < length records → (v : ℕ) → v < length before → (c.source ≡ v) ⊎ (c.source ≢ v) →
-        get_or (set records c.source (record_with n (length slots) (length c.added) (get_or records c.source no_record))) v no_record
-        ≡ cond (eqb c.source v) (record_with n (0 + slots_of rows) (length c.added) (get_or before v no_record)) (record_after n before 0 rows v)
+        get_or (set records c.source (record_with n (length slots) (length c.added) (length c.killed) (get_or records c.source no_record))) v no_record
+        ≡ cond (eqb c.source v) (record_with n (0 + slots_of rows) (length c.added) (length c.killed) (get_or before v no_record)) (record_after n before 0 rows v)
     by old size lt' v l (inl is) =
         let here : eqb c.source v ≡ true = grind (arith, nat_tests, is) in
-        ap (λ k. get_or (set records c.source (record_with n (length slots) (length c.added) (get_or records c.source no_record))) k no_record) (sym is)
-        ∙ (get_or-set_same records c.source (record_with n (length slots) (length c.added) (get_or records c.source no_record)) no_record lt'
-        ∙ (ap (λ x. record_with n (length slots) (length c.added) x) (old ∙ ap (λ k. get_or before k no_record) is)
-        ∙ (ap (λ k. record_with n k (length c.added) (get_or before v no_record)) size
-        ∙ sym (ap (λ b. cond b (record_with n (0 + slots_of rows) (length c.added) (get_or before v no_record)) (record_after n before 0 rows v)) here))))
+        ap (λ k. get_or (set records c.source (record_with n (length slots) (length c.added) (length c.killed) (get_or records c.source no_record))) k no_record) (sym is)
+        ∙ (get_or-set_same records c.source (record_with n (length slots) (length c.added) (length c.killed) (get_or records c.source no_record)) no_record lt'
+        ∙ (ap (λ x. record_with n (length slots) (length c.added) (length c.killed) x) (old ∙ ap (λ k. get_or before k no_record) is)
+        ∙ (ap (λ k. record_with n k (length c.added) (length c.killed) (get_or before v no_record)) size
+        ∙ sym (ap (λ b. cond b (record_with n (0 + slots_of rows) (length c.added) (length c.killed) (get_or before v no_record)) (record_after n before 0 rows v)) here))))
     by old size lt' v l (inr ne) =
         let other : eqb c.source v ≡ false = grind (arith, nat_tests, ne) in
-        get_or-set_other records c.source v (record_with n (length slots) (length c.added) (get_or records c.source no_record)) no_record (λ e. ne (sym e))
-        ∙ (h.records_are v l ∙ sym (ap (λ b. cond b (record_with n (0 + slots_of rows) (length c.added) (get_or before v no_record)) (record_after n before 0 rows v)) other))
+        get_or-set_other records c.source v (record_with n (length slots) (length c.added) (length c.killed) (get_or records c.source no_record)) no_record (λ e. ne (sym e))
+        ∙ (h.records_are v l ∙ sym (ap (λ b. cond b (record_with n (0 + slots_of rows) (length c.added) (length c.killed) (get_or before v no_record)) (record_after n before 0 rows v)) other))
 
 pub written-none : (n : ℕ) (before : List VertexRec) → IsWritten n before [] [] [] before
 written-none n before = record { slots_are = refl; weights_are = refl; len = refl; records_are = λ v l. refl; degrees = omega arith }

@@ -1,5 +1,5 @@
 -- Rows in a base: one fragment for each vertex, one after another.
-use Rattle.std.specs.Prelude.{◌≡◌, ℕ, ◌+◌, ◌≤◌, List, [], ◌∷◌, length, map, flat_map, Option, Some, unwrap_or}
+use Rattle.std.specs.Prelude.{◌≡◌, ℕ, ◌+◌, ◌≤◌, List, [], ◌∷◌, length, map, replicate, flat_map, Option, Some, unwrap_or}
 use Rattle.lama_edges.specs.declared.records.Slot.{Slot}
 use Rattle.lama_edges.specs.declared.records.Slot.TheVariants.{End}
 use Rattle.lama_edges.specs.declared.records.VertexRec.{VertexRec}
@@ -33,9 +33,10 @@ abbrev pub base_rows : List VertexRec → List Slot → List ℕ → List (List 
 base_rows records slots weights = map (λ rec. unwrap_or (row_from slots weights (λ s. Some []) rec.offset rec.len) []) records
 
 -- the fields of a base stand for these rows
-pub record IsBase (n : ℕ) (records : List VertexRec) (slots : List Slot) (weights : List ℕ) (rows : List (List (ℕ × ℕ))) : Type 0 where
+pub record IsBase (n : ℕ) (records : List VertexRec) (slots : List Slot) (marks weights : List ℕ) (rows : List (List (ℕ × ℕ))) : Type 0 where
   pub records_are : records ≡ base_records n 0 rows
   pub slots_are : slots ≡ base_slots rows
+  pub marks_are : marks ≡ replicate (length (base_slots rows)) 0
   pub weights_are : weights ≡ base_weights rows
   pub targets : AreTargetsBelow (length rows) rows
   pub few : edges_in rows ≤ 33554432

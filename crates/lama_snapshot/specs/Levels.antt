@@ -5,19 +5,18 @@ use Rattle.lama_edges.specs.declared.records.Slot.{Slot}
 use Rattle.lama_edges.specs.declared.records.Slot.TheVariants.{Edge}
 use Rattle.lama_model.specs.Change.{Change}
 use Rattle.lama_snapshot.specs.Chains.{Table}
+use Rattle.lama_snapshot.specs.Written.{level_sources}
 use Rattle.lama_snapshot.specs.declared.level.Level.{Level}
 
--- its slots and their weights
+-- its slots and their sources
 abbrev pub table_of : Level → Table
-table_of l = record { slots = l.edges; weights = l.weights }
+table_of l = record { slots = l.edges; sources = level_sources (arc_value l.change).rows }
 
 -- its change
 abbrev pub change_of : Level → Change
 change_of l = arc_value l.change
 
--- an edge with a weight stands at the place
-pub record HasEdge (slots : List Slot) (weights : List ℕ) (o : ℕ) : Type 0 where
+-- an edge stands at the place
+pub record HasEdge (slots : List Slot) (o : ℕ) : Type 0 where
   pub target : ℕ
-  pub weight : ℕ
   pub slot_is : slice_get slots o ≡ Some (Edge target)
-  pub weight_is : slice_get weights o ≡ Some weight

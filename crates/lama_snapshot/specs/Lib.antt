@@ -1,5 +1,6 @@
 pub mod Fragments
 pub mod BaseRows
+pub mod Cells
 pub mod Chains
 pub mod Snap
 pub mod Written
@@ -7,3 +8,4 @@ pub mod Levels
 pub mod Shown
 pub mod NewLevel
 pub mod Loops
+pub mod Found

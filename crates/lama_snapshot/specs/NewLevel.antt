@@ -1,9 +1,8 @@
 -- A level that was written above a snapshot.
 use Rattle.std.specs.Prelude.{◌≡◌, ◌-◌, ◌≤◌, ◌++◌, List, length, replicate}
 use Rattle.lama_edges.specs.declared.records.VertexRec.{VertexRec}
-use Rattle.lama_model.specs.Change.{Change}
-use Rattle.lama_model.specs.Bounds.{added_edges}
-use Rattle.lama_delta.specs.Seen.{IsSeenChange}
+use Rattle.lama_model.specs.Change.{Change, IsChange}
+use Rattle.lama_model.specs.Bounds.{added_edges, killed_edges}
 use Rattle.lama_snapshot.specs.Snap.{no_record}
 use Rattle.lama_snapshot.specs.Written.{IsWritten}
 use Rattle.lama_snapshot.specs.declared.apply.NewLevel.{NewLevel}
@@ -14,4 +13,5 @@ pub record IsNewLevel (before : List VertexRec) (c : Change) (l : NewLevel) : Ty
   pub weights : length l.edges ≡ length l.weights
   pub few : length l.edges ≤ 67108864
   pub added : l.added ≡ added_edges c
-  pub valid : IsSeenChange c
+  pub killed : l.killed ≡ killed_edges c
+  pub valid : IsChange c

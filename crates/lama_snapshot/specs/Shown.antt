@@ -1,10 +1,15 @@
 -- What a contract sees of the fields of a snapshot.
 use Rattle.std.specs.Prelude.{map}
 use Rattle.std.specs.Arc.{arc_value}
-use Rattle.lama_snapshot.specs.Chains.{rows_from}
+use Rattle.lama_snapshot.specs.Cells.{Columns}
+use Rattle.lama_snapshot.specs.Chains.{cells_of, rows_from}
 use Rattle.lama_snapshot.specs.Snap.{Snap, layout_of, IsSnap}
 use Rattle.lama_snapshot.specs.Levels.{table_of, change_of}
 use Rattle.lama_snapshot.specs.declared.snapshot.Snapshot.TheInside.{Inside}
+
+-- the marks and the weights
+abbrev pub columns_of : Inside → Columns
+columns_of s = record { marks = s.hidden.items; weights = s.weights.items }
 
 -- the snapshot that the fields stand for
 abbrev pub shown : Inside → Snap
@@ -15,11 +20,13 @@ shown s =
     record {
       number = s.number;
       base = base;
-      rows = rows_from layout s.vertices;
+      rows = rows_from layout (columns_of s) s.vertices;
       changes = map change_of levels;
       edge_count = s.edge_count;
       layout = layout;
+      columns = columns_of s;
+      cells = cells_of layout s.vertices;
     }
 
 abbrev pub IsShown : Inside → Type 0
-IsShown s = IsSnap s.number s.edge_count s.vertices (arc_value s.base) (map table_of (map arc_value s.levels.items))
+IsShown s = IsSnap s.number s.edge_count s.vertices (arc_value s.base) (map table_of (map arc_value s.levels.items)) (columns_of s)

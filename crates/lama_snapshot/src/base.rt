@@ -1,13 +1,13 @@
-ghost use Rattle.std.specs.Prelude.{◌≡◌, ◌+◌, ◌≤◌, IfOk, length};
+ghost use Rattle.std.specs.Prelude.{◌≡◌, ◌+◌, ◌<◌, ◌≤◌, IfOk, length, replicate, take};
 ghost use Rattle.lama_edges.specs.declared.records.VertexRec.{VertexRec as SeenRec};
-ghost use Rattle.lama_model.specs.Row.{AreTargetsBelow, edges_in};
+ghost use Rattle.lama_model.specs.Row.{AreTargetsBelow, edges_in, row_at};
 ghost use Rattle.lama_model.specs.Bounds.{base_pages};
-ghost use Rattle.lama_snapshot.specs.BaseRows.{base_records};
+ghost use Rattle.lama_snapshot.specs.BaseRows.{base_records, base_slots, base_weights};
 
 use crate::writer::Writer;
 use lama_array::{Builder, VArray};
 use lama_edges::{EdgeTable, Slot, VertexRec};
-use lama_marks::Weights;
+use lama_marks::{Hidden, Weights};
 use lama_model::Rows;
 use lama_pages::Steps;
 use std::alloc::{AllocError, Global};
@@ -21,6 +21,7 @@ pub struct Base {
     number: u32,
     vertices: VArray<VertexRec>,
     edges: EdgeTable,
+    hidden: Hidden,
     weights: Weights,
 }
 
@@ -31,7 +32,7 @@ impl Model for Base {
 
     ghost view = { λ b. record { number = b.number; rows = base_rows b.vertices b.edges b.weights } };
 
-    ghost invariant = { λ b. IsBase b.number b.vertices b.edges b.weights (base_rows b.vertices b.edges b.weights) };
+    ghost invariant = { λ b. IsBase b.number b.vertices b.edges b.hidden b.weights (base_rows b.vertices b.edges b.weights) };
 }
 
 /// A place in a row of a [`Base`]: where its next edge is, and how many are left.
@@ -73,10 +74,12 @@ impl Base {
         }
         let (edges, weights) = writer.finish()?;
         let vertices = vertices.finish()?;
+        let hidden = Hidden::standing(alloc, edges.len(), pages)?;
         Ok(Base {
             number,
             vertices,
             edges,
+            hidden,
             weights,
         })
     }
@@ -94,6 +97,41 @@ impl Base {
         ensures { result.now ≡ base_records self.now.number 0 self.now.rows }
     {
         &self.vertices
+    }
+
+    // The slots of its rows.
+    pub(crate) fn edges(&self) -> &EdgeTable
+        ensures slots { result.now ≡ base_slots self.now.rows }
+        ensures few { length result.now ≤ 67108864 }
+    {
+        &self.edges
+    }
+
+    // The marks of its slots, of which all stand.
+    pub(crate) fn hidden(&self) -> &Hidden
+        ensures { result.now ≡ replicate (length (base_slots self.now.rows)) 0 }
+    {
+        &self.hidden
+    }
+
+    // The weights of its slots.
+    pub(crate) fn weights(&self) -> &Weights
+        ensures { result.now ≡ base_weights self.now.rows }
+    {
+        &self.weights
+    }
+
+    // Where the row of `v` is.
+    pub(crate) fn fragment(&self, v: u32) -> BaseAt
+        requires { v < length self.now.rows }
+        ensures offset { result.offset ≡ length (base_slots (take v self.now.rows)) }
+        ensures left { result.left ≡ length (row_at self.now.rows v) }
+    {
+        let record = self.vertices.get(v);
+        BaseAt {
+            offset: record.offset,
+            left: record.len,
+        }
     }
 
     // How many edges it has.
@@ -128,11 +166,7 @@ impl Rows for Base {
     }
 
     fn start(&self, v: u32) -> BaseAt {
-        let record = self.vertices.get(v);
-        BaseAt {
-            offset: record.offset,
-            left: record.len,
-        }
+        self.fragment(v)
     }
 
     fn next(&self, at: BaseAt) -> Option<(u32, u64, BaseAt)> {

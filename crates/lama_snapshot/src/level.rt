@@ -12,7 +12,6 @@ use crate::writer::Writer;
 use lama_array::Edit;
 use lama_delta::{Change, RowChange};
 use lama_edges::{EdgeTable, Slot, VertexRec};
-use lama_marks::Weights;
 use lama_model::Rows;
 use lama_pages::Steps;
 use std::alloc::{AllocError, Global};
@@ -23,7 +22,6 @@ use std::sync::ledger::Ledger;
 #[derive(Drop)]
 pub(crate) struct Level {
     pub edges: EdgeTable,
-    pub weights: Weights,
     pub change: Arc<Change, Global>,
 }
 
@@ -37,6 +35,21 @@ pub struct SnapshotAt {
     pub(crate) left: u32,
 }
 
+// Where a slot is: in the table of the base, which is 0, or in that of a level, counted from the base.
+#[derive(Clone, Copy, Debug)]
+pub(crate) struct Cell {
+    pub table: u32,
+    pub place: u32,
+}
+
+// A slot with an edge, and the place behind it.
+#[derive(Clone, Copy, Debug)]
+pub(crate) struct FoundEdge {
+    pub target: u32,
+    pub cell: Cell,
+    pub rest: SnapshotAt,
+}
+
 // A new vertex has no edges.
 pub(crate) const NO_RECORD: VertexRec = VertexRec {
     level: 0,
@@ -46,7 +59,7 @@ pub(crate) const NO_RECORD: VertexRec = VertexRec {
 };
 
 ghost use Rattle.lama_snapshot.specs.Levels.{table_of, HasEdge};
-ghost use Rattle.lama_snapshot.specs.Written.{IsEven, Wrote, level_slots, level_weights, next_of, record_with, record_after, pages_for, IsWritten, slots_of};
+ghost use Rattle.lama_snapshot.specs.Written.{IsEven, Wrote, next_of, record_with, pages_for, IsWritten, IsWithin, slots_of};
 ghost use Rattle.std.specs.List.Sorted.{IsStrictlyIncreasing};
 ghost use Rattle.lama_edges.specs.declared.records.VertexRec.{VertexRec as SeenRec};
 ghost use Rattle.lama_snapshot.specs.Snap.{no_record};
@@ -78,7 +91,7 @@ pub(crate) fn place_of(base: &Base, v: u32, level: u32, offset: u32, len: u32) -
         };
     }
     if v < base.count() {
-        let at = base.start(v);
+        let at = base.fragment(v);
         return SnapshotAt {
             v,
             level: floor,
@@ -94,28 +107,35 @@ pub(crate) fn place_of(base: &Base, v: u32, level: u32, offset: u32, len: u32) -
     }
 }
 
-// The edge at a place of a level, and the place of the next slot.
-pub(crate) fn edge_at(level: &Level, at: SnapshotAt) -> (u32, u64, SnapshotAt)
+// The edge at a place in the table of that number.
+pub(crate) fn edge_at(edges: &EdgeTable, table: u32, at: SnapshotAt) -> FoundEdge
     requires left { 0 < at.left }
-    requires edge { HasEdge level.now.edges level.now.weights at.offset }
-    requires few { length level.now.edges ≤ 67108864 }
-    ensures target { slice_get level.now.edges at.offset ≡ Some (SeenEdge result.0) }
-    ensures weight { slice_get level.now.weights at.offset ≡ Some result.1 }
-    ensures v { result.2.v ≡ at.v }
-    ensures level { result.2.level ≡ at.level }
-    ensures offset { result.2.offset ≡ at.offset + 1 }
-    ensures rest { result.2.left ≡ at.left - 1 }
+    requires edge { HasEdge edges.now at.offset }
+    requires few { length edges.now ≤ 67108864 }
+    ensures target { slice_get edges.now at.offset ≡ Some (SeenEdge result.target) }
+    ensures table { result.cell.table ≡ table }
+    ensures place { result.cell.place ≡ at.offset }
+    ensures v { result.rest.v ≡ at.v }
+    ensures level { result.rest.level ≡ at.level }
+    ensures offset { result.rest.offset ≡ at.offset + 1 }
+    ensures rest { result.rest.left ≡ at.left - 1 }
 {
-    let Slot::Edge { target } = level.edges.slot(at.offset) else {
+    let Slot::Edge { target } = edges.slot(at.offset) else {
         unreachable!()
     };
-    let rest = SnapshotAt {
-        v: at.v,
-        level: at.level,
-        offset: at.offset + 1,
-        left: at.left - 1,
-    };
-    (target, level.weights.weight(at.offset), rest)
+    FoundEdge {
+        target,
+        cell: Cell {
+            table,
+            place: at.offset,
+        },
+        rest: SnapshotAt {
+            v: at.v,
+            level: at.level,
+            offset: at.offset + 1,
+            left: at.left - 1,
+        },
+    }
 }
 
 // Writes the fragment of a row that changes, and gives its vertex the record of it.
@@ -130,8 +150,9 @@ fn write_row<L: Ledger>(
     requires source { row.now.source < length edit.old.items }
     requires room { length writer.old.slots + length row.now.added.items < 67108864 }
     requires degree { (slice_index_or edit.old.items row.now.source no_record).degree + length row.now.added.items < 2 ^ 32 }
+    requires killed { length row.now.killed.items ≤ (slice_index_or edit.old.items row.now.source no_record).degree }
     ensures wrote { OnOk result (Wrote writer.old writer.new (fragment_slots row.now.added.items (next_of (slice_index_or edit.old.items row.now.source no_record))) (fragment_weights row.now.added.items)) }
-    ensures records { OnOk result (edit.new.items ≡ slice_set edit.old.items row.now.source (record_with number (length writer.old.slots) (length row.now.added.items) (slice_index_or edit.old.items row.now.source no_record))) }
+    ensures records { OnOk result (edit.new.items ≡ slice_set edit.old.items row.now.source (record_with number (length writer.old.slots) (length row.now.added.items) (length row.now.killed.items) (slice_index_or edit.old.items row.now.source no_record))) }
     ensures made { OnOk result (pages.new + pages_for (length writer.old.slots) ≤ pages.old + pages_for (length writer.new.slots) + 1) }
     ensures at_most { pages.new + pages_for (length writer.old.slots) ≤ pages.old + pages_for (length writer.old.slots + length row.now.added.items + 1) + 1 }
 {
@@ -148,7 +169,7 @@ fn write_row<L: Ledger>(
         level: number,
         offset,
         len: added,
-        degree: old.degree + added,
+        degree: old.degree + added - row.killed.len() as u32,
     };
     edit.set(row.source, record, pages)
 }
@@ -164,7 +185,9 @@ pub(crate) fn write_rows<L: Ledger>(
     requires sources { All (λ r. r.source < length edit.old.items) (seen_rows rows.now) }
     requires rising { IsStrictlyIncreasing (map (λ (r : SeenRow). r.source) (seen_rows rows.now)) }
     requires room { slots_of (seen_rows rows.now) ≤ 67108864 }
-    requires degrees { sum_by (λ (r : SeenRec). r.degree) edit.old.items + sum_by (λ (r : SeenRow). length r.added) (seen_rows rows.now) ≤ 33554432 }
+    requires degrees { sum_by (λ (r : SeenRec). r.degree) edit.old.items ≤ 33554432 }
+    requires added { sum_by (λ (r : SeenRow). length r.added) (seen_rows rows.now) ≤ 33554432 }
+    requires killed { All (IsWithin edit.old.items) (seen_rows rows.now) }
     ensures even { IfOk result IsEven }
     ensures written { IfOk result (λ w. IsWritten number edit.old.items (seen_rows rows.now) w.slots w.weights edit.new.items) }
     ensures made { pages.new ≤ pages.old + length rows.now + pages_for (slots_of (seen_rows rows.now)) }

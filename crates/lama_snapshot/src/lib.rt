@@ -7,6 +7,7 @@
 
 mod apply;
 mod base;
+mod found;
 mod level;
 mod snapshot;
 mod writer;

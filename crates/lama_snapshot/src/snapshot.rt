@@ -1,20 +1,25 @@
-ghost use Rattle.std.specs.Prelude.{◌≡◌, ◌+◌, ◌-◌, ◌<◌, ◌≤◌, ◌↔◌, ◌++◌, [], ◌∷◌, ℕ, IfOk, IsTrue, IsSome, MatchOption, Some, sum_by, unwrap_or, length};
+ghost use Rattle.std.specs.Prelude.{◌≡◌, ◌+◌, ◌-◌, ◌<◌, ◌≤◌, ◌↔◌, ◌++◌, [], ◌∷◌, ℕ, All, drop, IfOk, IsTrue, MatchOption, OnOk, map, length, slice_index_or, sum_by};
 ghost use Rattle.std.specs.Arc.{arc_value};
+ghost use Rattle.std.specs.List.Sorted.{IsStrictlyIncreasing};
 ghost use Rattle.lama_model.specs.Row.{row_at, edges_in};
 ghost use Rattle.lama_model.specs.Change.{RowChange as SeenRow, row_after};
-ghost use Rattle.lama_delta.specs.Seen.{seen_rows};
-ghost use Rattle.lama_model.specs.Bounds.{added_edges, checkpoint_pages};
-ghost use Rattle.lama_model.specs.Fits.{Fits};
-ghost use Rattle.lama_snapshot.specs.Snap.{floor_of, change_at};
-ghost use Rattle.lama_snapshot.specs.BaseRows.{base_suffix};
+ghost use Rattle.lama_delta.specs.Seen.{seen_row, seen_rows};
+ghost use Rattle.lama_model.specs.Bounds.{added_edges, killed_edges, checkpoint_pages};
+ghost use Rattle.lama_model.specs.Fits.{Fits, HasIndexes};
+ghost use Rattle.lama_snapshot.specs.Cells.{standing, stands, visible};
+ghost use Rattle.lama_snapshot.specs.Chains.{IsPlace, place_cells};
+ghost use Rattle.lama_snapshot.specs.Snap.{floor_of, change_at, IsCell};
+ghost use Rattle.lama_snapshot.specs.Found.{killed_slot, set_slot, killed_slots, set_slots, AreHidden, AreSet};
 
-use crate::apply::{NewLevel, push_level, write_level};
-use crate::base::{Base, BaseAt};
-use crate::level::{Level, SnapshotAt, edge_at, level_at, place_of};
+use crate::apply::{NewLevel, edges_at_most, edges_of, push_level, write_level};
+use crate::base::Base;
+use crate::found::{by_table, hide_all, weigh_all};
+use crate::level::{Cell, FoundEdge, Level, SnapshotAt, edge_at, level_at, place_of};
 use lama_array::VArray;
 use lama_base::limits::{MAX_EDGES, MAX_NUMBER, MAX_VERTICES};
 use lama_delta::{Change, RowChange};
 use lama_edges::{Slot, VertexRec};
+use lama_marks::{Hidden, Weights};
 use lama_model::Rows;
 use lama_pages::Steps;
 use std::alloc::{AllocError, Global};
@@ -26,7 +31,8 @@ use std::sync::ledger::Ledger;
 /// many edges it has.
 ///
 /// Its vertex table shares with other snapshots each page that no change between them touched, and its base and its
-/// levels are shared wholly. It never changes.
+/// levels are shared wholly. Of the marks and weights of each table it has a version, which is its own where its
+/// change touched that table and shared otherwise. It never changes.
 #[derive(Drop)]
 pub struct Snapshot {
     pub(crate) number: u32,
@@ -35,6 +41,9 @@ pub struct Snapshot {
     pub(crate) base: Arc<Base, Global>,
     // The level above the floor first.
     pub(crate) levels: Vec<Arc<Level, Global>>,
+    // Those of the base first, and then those of each level.
+    pub(crate) hidden: Vec<Hidden>,
+    pub(crate) weights: Vec<Weights>,
 }
 
 impl Model for Snapshot {
@@ -61,12 +70,16 @@ impl Snapshot {
         let number = floor.number();
         let edge_count = floor.edge_count();
         let vertices = floor.vertices().share()?;
+        let hidden = vec![in alloc; floor.hidden().share()?]?;
+        let weights = vec![in alloc; floor.weights().share()?]?;
         Ok(Snapshot {
             number,
             edge_count,
             vertices,
             base,
             levels: Vec::new(alloc),
+            hidden,
+            weights,
         })
     }
 
@@ -98,8 +111,10 @@ impl Snapshot {
 
     /// The graph after the change: its rows are these rows with the change done, and new vertices have empty rows.
     ///
-    /// Costs the changed rows, and a pointer for each page of the vertex table and for each level. A page of the
-    /// vertex table is made for each page that has a changed row.
+    /// Costs the changed rows, of a row where edges go or get another weight the edges up to the oldest of them, and
+    /// a pointer for each page of the vertex table, for each level, and for each page of the marks or the weights of a
+    /// table that is touched. A page of the vertex table is made for each page that has a changed row, and a page of
+    /// marks or weights for each page that is touched.
     pub fn apply<L: Ledger>(
         &self,
         alloc: Global,
@@ -113,30 +128,202 @@ impl Snapshot {
             row_at s.rows v ≡ row_after (arc_value change).rows v (row_at self.now.rows v)) }
         ensures base { IfOk result (λ s. s.base ≡ self.now.base) }
         ensures changes { IfOk result (λ s. s.changes ≡ self.now.changes ++ arc_value change ∷ []) }
-        ensures edges { IfOk result (λ s. edges_in s.rows ≡ edges_in self.now.rows + added_edges (arc_value change)) }
+        ensures edges { IfOk result (λ s. edges_in s.rows + killed_edges (arc_value change) ≡ edges_in self.now.rows + added_edges (arc_value change)) }
         ensures made { pages.new ≤ pages.old + checkpoint_pages (arc_value change) }
     {
         let wanted: &Change = &change;
         let number = wanted.number;
+        let mut hidden = self.hide_killed(alloc, wanted.rows(), number, pages)?;
+        let mut marked = self.weigh_set(alloc, wanted.rows(), pages)?;
         let NewLevel {
             vertices,
             edges,
             weights,
             added,
+            killed,
         } = write_level(alloc, &self.vertices, wanted, pages)?;
-        let level = Level {
-            edges,
-            weights,
-            change,
-        };
+        hidden.push(Hidden::standing(alloc, edges.len(), pages)?)?;
+        marked.push(weights)?;
+        let level = Level { edges, change };
         let levels = push_level(alloc, &self.levels, Arc::new(alloc, level)?)?;
         Ok(Snapshot {
             number,
-            edge_count: self.edge_count + added,
+            edge_count: self.edge_count + added - killed,
             vertices,
             base: Arc::try_clone(&self.base)?,
             levels,
+            hidden,
+            weights: marked,
         })
+    }
+
+    // The marks of each table, with that number where an edge goes.
+    fn hide_killed<L: Ledger>(
+        &self,
+        alloc: Global,
+        rows: &[RowChange],
+        number: u32,
+        pages: &mut Steps<L>,
+    ) -> Result<Vec<Hidden>, AllocError>
+        requires rising { All (λ r. IsStrictlyIncreasing r.killed) (seen_rows rows.now) }
+        requires indexes { All (HasIndexes self.now.rows) (seen_rows rows.now) }
+        ensures marks { IfOk result (λ v. AreHidden (killed_slots self.now (seen_rows rows.now)) number self.now.columns.marks v.items) }
+        ensures made { pages.new ≤ pages.old + sum_by (λ (r : SeenRow). length r.killed) (seen_rows rows.now) }
+    {
+        let mut found = Vec::new(alloc);
+        for row in rows {
+            self.find_killed(row.source, &row.killed, &mut found)?;
+        }
+        let places = by_table(alloc, self.hidden.len(), &found)?;
+        let hidden = hide_all(alloc, &self.hidden, &places, number, pages)?;
+        Ok(hidden)
+    }
+
+    // The weights of each table, with the new ones where an edge gets another.
+    fn weigh_set<L: Ledger>(
+        &self,
+        alloc: Global,
+        rows: &[RowChange],
+        pages: &mut Steps<L>,
+    ) -> Result<Vec<Weights>, AllocError>
+        requires rising { All (λ r. IsStrictlyIncreasing (map (λ p. p.0) r.set)) (seen_rows rows.now) }
+        requires indexes { All (HasIndexes self.now.rows) (seen_rows rows.now) }
+        ensures weights { IfOk result (λ v. AreSet (set_slots self.now (seen_rows rows.now)) self.now.columns.weights v.items) }
+        ensures made { pages.new ≤ pages.old + sum_by (λ (r : SeenRow). length r.set) (seen_rows rows.now) }
+    {
+        let mut found = Vec::new(alloc);
+        for row in rows {
+            self.find_set(row.source, &row.set, &mut found)?;
+        }
+        let places = by_table(alloc, self.weights.len(), &found)?;
+        let weights = weigh_all(alloc, &self.weights, &places, pages)?;
+        Ok(weights)
+    }
+
+    // Finds the slots of the edges of the row of `v` with these indexes, which rise. Walks the row up to the last.
+    fn find_killed(
+        &self,
+        v: u32,
+        killed: &[u32],
+        found: &mut Vec<(u32, u32)>,
+    ) -> Result<(), AllocError>
+        requires rising { IsStrictlyIncreasing killed.now }
+        requires indexes { All (λ k. k < length (row_at self.now.rows v)) killed.now }
+        ensures { OnOk result (found.new.items ≡ found.old.items ++ map (killed_slot self.now v) killed.now) }
+    {
+        if killed.is_empty() {
+            return Ok(());
+        }
+        let mut at = self.row_place(v);
+        let mut passed = 0u64;
+        for &index in killed {
+            let Some(edge) = self.nth_edge(at, (index as u64 - passed) as u32) else {
+                unreachable!()
+            };
+            found.push((edge.cell.table, edge.cell.place))?;
+            at = edge.rest;
+            passed = index as u64 + 1;
+        }
+        Ok(())
+    }
+
+    // Finds the slots of the edges of the row of `v` with these indexes, which rise, and keeps their weights.
+    fn find_set(
+        &self,
+        v: u32,
+        set: &[(u32, u64)],
+        found: &mut Vec<(u32, (u32, u64))>,
+    ) -> Result<(), AllocError>
+        requires rising { IsStrictlyIncreasing (map (λ p. p.0) set.now) }
+        requires indexes { All (λ p. p.0 < length (row_at self.now.rows v)) set.now }
+        ensures { OnOk result (found.new.items ≡ found.old.items ++ map (set_slot self.now v) set.now) }
+    {
+        if set.is_empty() {
+            return Ok(());
+        }
+        let mut at = self.row_place(v);
+        let mut passed = 0u64;
+        for &(index, weight) in set {
+            let Some(edge) = self.nth_edge(at, (index as u64 - passed) as u32) else {
+                unreachable!()
+            };
+            found.push((edge.cell.table, (edge.cell.place, weight)))?;
+            at = edge.rest;
+            passed = index as u64 + 1;
+        }
+        Ok(())
+    }
+
+    // Where the row of `v` begins.
+    fn row_place(&self, v: u32) -> SnapshotAt
+        requires { v < length self.now.rows }
+        ensures place { IsPlace self.now.layout (length self.now.rows) result.v result.level result.offset result.left }
+        ensures cells { place_cells self.now.layout result.v result.level result.offset result.left ≡ slice_index_or self.now.cells v [] }
+        ensures row { visible self.now.columns (slice_index_or self.now.cells v []) ≡ row_at self.now.rows v }
+    {
+        let record = self.vertices.get(v);
+        place_of(&self.base, v, record.level, record.offset, record.len)
+    }
+
+    // The next edge from a place on, hidden or not.
+    fn next_edge(&self, start: SnapshotAt) -> Option<FoundEdge>
+        requires { IsPlace self.now.layout (length self.now.rows) start.v start.level start.offset start.left }
+        ensures { MatchOption result (place_cells self.now.layout start.v start.level start.offset start.left ≡ []) (λ found.
+            IsPlace self.now.layout (length self.now.rows) found.rest.v found.rest.level found.rest.offset found.rest.left
+            × IsCell self.now.columns found.cell
+            × (found.rest.v ≡ start.v)
+            × (place_cells self.now.layout start.v start.level start.offset start.left ≡ (found.target, found.cell) ∷ place_cells self.now.layout found.rest.v found.rest.level found.rest.offset found.rest.left)) }
+    {
+        let base: &Base = &self.base;
+        let floor = base.number();
+        let mut at = start;
+        while floor < at.level {
+            let level = level_at(&self.levels, floor, at.level);
+            if at.left > 0 {
+                return Some(edge_at(&level.edges, at.level - floor, at));
+            }
+            match level.edges.slot(at.offset) {
+                Slot::Next { level, offset, len } => at = place_of(base, at.v, level, offset, len),
+                _ => return None,
+            }
+        }
+        if at.left == 0 {
+            return None;
+        }
+        Some(edge_at(base.edges(), 0, at))
+    }
+
+    // Whether the edge in the cell is not hidden.
+    fn stands(&self, cell: Cell) -> bool
+        requires { IsCell self.now.columns cell }
+        ensures { (t : ℕ) → result ≡ stands self.now.columns (t, cell) }
+    {
+        self.hidden[cell.table as usize].hidden_at(cell.place) == 0
+    }
+
+    // The edge that stands behind `n` others that stand, from a place on.
+    fn nth_edge(&self, start: SnapshotAt, n: u32) -> Option<FoundEdge>
+        requires { IsPlace self.now.layout (length self.now.rows) start.v start.level start.offset start.left }
+        ensures { MatchOption result (length (standing self.now.columns (place_cells self.now.layout start.v start.level start.offset start.left)) ≤ n) (λ found.
+            IsPlace self.now.layout (length self.now.rows) found.rest.v found.rest.level found.rest.offset found.rest.left
+            × IsCell self.now.columns found.cell
+            × (found.rest.v ≡ start.v)
+            × (drop n (standing self.now.columns (place_cells self.now.layout start.v start.level start.offset start.left))
+            ≡ (found.target, found.cell) ∷ standing self.now.columns (place_cells self.now.layout found.rest.v found.rest.level found.rest.offset found.rest.left))) }
+    {
+        let mut at = start;
+        let mut left = n;
+        while let Some(edge) = self.next_edge(at) {
+            at = edge.rest;
+            if !self.stands(edge.cell) {
+                continue;
+            }
+            if left == 0 {
+                return Some(edge);
+            }
+            left -= 1;
+        }
+        None
     }
 
     /// Whether the change goes on from this snapshot: its number is the next one, its indexes are places of these
@@ -157,7 +344,50 @@ impl Snapshot {
         if change.count > MAX_VERTICES {
             return false;
         }
-        adds_at_most(rows, MAX_EDGES - self.edge_count)
+        if !edges_at_most(rows, MAX_EDGES) {
+            return false;
+        }
+        let (added, killed) = edges_of(rows);
+        if self.edge_count + added > MAX_EDGES + killed {
+            return false;
+        }
+        self.have_indexes(rows)
+    }
+
+    // Whether the rows name only indexes that these rows have.
+    fn have_indexes(&self, rows: &[RowChange]) -> bool
+        requires { All (λ r. IsStrictlyIncreasing r.killed × IsStrictlyIncreasing (map (λ p. p.0) r.set)) (seen_rows rows.now) }
+        ensures { IsTrue result ↔ All (HasIndexes self.now.rows) (seen_rows rows.now) }
+    {
+        for row in rows {
+            if !self.has_indexes(row) {
+                return false;
+            }
+        }
+        true
+    }
+
+    // Whether the row change names only indexes that its row has. The last index is the greatest.
+    fn has_indexes(&self, row: &RowChange) -> bool
+        requires killed { IsStrictlyIncreasing (seen_row row.now).killed }
+        requires set { IsStrictlyIncreasing (map (λ p. p.0) (seen_row row.now).set) }
+        ensures { IsTrue result ↔ HasIndexes self.now.rows (seen_row row.now) }
+    {
+        let len = self.row_len(row.source);
+        if !all_below(&row.killed, len) {
+            return false;
+        }
+        all_set_below(&row.set, len)
+    }
+
+    // How many edges the row of `v` has; a vertex that is not there has none.
+    fn row_len(&self, v: u32) -> u32
+        ensures { result ≡ length (row_at self.now.rows v) }
+    {
+        if v < self.vertices.len() {
+            return self.vertices.get(v).degree;
+        }
+        0
     }
 
     /// Its change of the number `k`, by its place: there is no search.
@@ -179,51 +409,36 @@ impl Snapshot {
     }
 }
 
-// Whether the rows add no more edges than that.
-fn adds_at_most(rows: &[RowChange], most: u32) -> bool
-    ensures { IsTrue result ↔ (sum_by (λ (r : SeenRow). length r.added) (seen_rows rows.now) ≤ most) }
+// Whether the indexes, which rise, are all below `len`: the last is the greatest.
+fn all_below(indexes: &[u32], len: u32) -> bool
+    requires { IsStrictlyIncreasing indexes.now }
+    ensures { IsTrue result ↔ All (λ k. k < len) indexes.now }
 {
-    let mut left = most as usize;
-    for row in rows {
-        if row.added.len() > left {
-            return false;
-        }
-        left -= row.added.len();
+    if indexes.is_empty() {
+        return true;
     }
-    true
+    indexes[indexes.len() - 1] < len
 }
 
-// The next edge at a place up to the floor.
-fn next_in_base(base: &Base, at: SnapshotAt) -> Option<(u32, u64, SnapshotAt)>
-    requires { IsSome (base_suffix base.now.rows at.offset at.left) }
-    ensures { MatchOption result (base_suffix base.now.rows at.offset at.left ≡ Some []) (λ found.
-        (found.2.v ≡ at.v) × (found.2.level ≡ at.level) × IsSome (base_suffix base.now.rows found.2.offset found.2.left)
-        × (unwrap_or (base_suffix base.now.rows at.offset at.left) [] ≡ (found.0, found.1) ∷ unwrap_or (base_suffix base.now.rows found.2.offset found.2.left) [])) }
+// Whether the indexes of these pairs, which rise, are all below `len`.
+fn all_set_below(set: &[(u32, u64)], len: u32) -> bool
+    requires { IsStrictlyIncreasing (map (λ p. p.0) set.now) }
+    ensures { IsTrue result ↔ All (λ p. p.0 < len) set.now }
 {
-    let place = BaseAt {
-        offset: at.offset,
-        left: at.left,
-    };
-    let (target, weight, rest) = base.next(place)?;
-    let rest = SnapshotAt {
-        v: at.v,
-        level: at.level,
-        offset: rest.offset,
-        left: rest.left,
-    };
-    Some((target, weight, rest))
+    if set.is_empty() {
+        return true;
+    }
+    set[set.len() - 1].0 < len
 }
 
 impl Rows for Snapshot {
-    ghost use Rattle.lama_snapshot.specs.Chains.{place_row, IsPlace};
-
     type At = SnapshotAt;
 
     ghost rows = { λ s. s.rows };
 
     ghost is_place = { λ s p. IsPlace s.layout (length s.rows) p.v p.level p.offset p.left };
 
-    ghost suffix = { λ s p. unwrap_or (place_row s.layout p.v p.level p.offset p.left) [] };
+    ghost suffix = { λ s p. visible s.columns (place_cells s.layout p.v p.level p.offset p.left) };
 
     fn count(&self) -> u32 {
         self.vertices.len()
@@ -234,24 +449,12 @@ impl Rows for Snapshot {
     }
 
     fn start(&self, v: u32) -> SnapshotAt {
-        let record = self.vertices.get(v);
-        place_of(&self.base, v, record.level, record.offset, record.len)
+        self.row_place(v)
     }
 
-    fn next(&self, start: SnapshotAt) -> Option<(u32, u64, SnapshotAt)> {
-        let base: &Base = &self.base;
-        let floor = base.number();
-        let mut at = start;
-        while floor < at.level {
-            let level = level_at(&self.levels, floor, at.level);
-            if at.left > 0 {
-                return Some(edge_at(level, at));
-            }
-            match level.edges.slot(at.offset) {
-                Slot::Next { level, offset, len } => at = place_of(base, at.v, level, offset, len),
-                _ => return None,
-            }
-        }
-        next_in_base(base, at)
+    fn next(&self, at: SnapshotAt) -> Option<(u32, u64, SnapshotAt)> {
+        let edge = self.nth_edge(at, 0)?;
+        let weights = &self.weights[edge.cell.table as usize];
+        Some((edge.target, weights.weight(edge.cell.place), edge.rest))
     }
 }

@@ -1,7 +1,6 @@
 pub mod Bytes
 pub mod LineLemmas
 pub mod Expectations
-pub mod Plain
 pub mod LineMeanings
 pub mod Reading
 pub mod Sessions

@@ -1,18 +1,20 @@
 -- What a reading command prints.
-use Rattle.std.proofs.Common.{◌≡◌, ℕ, ◌<◌, ◌≤◌, Bool, true, false, cond, List, refl, sym, ap, ◌∙◌, arith, Option}
+use Rattle.std.proofs.Common.{◌≡◌, ℕ, ◌+◌, ◌<◌, ◌≤◌, Bool, true, false, cond, List, [], refl, sym, ap, ◌∙◌, arith, Option}
 use Rattle.std.specs.Prelude.{nat_lt}
 use Rattle.std.proofs.lemmas.Bool.Decides.{nat_tests}
+use Rattle.std.proofs.lemmas.List.{ext_get_or}
+use Rattle.std.proofs.lemmas.List.FromFn.{get_or-map-range_with_len, length-map-range_with_len}
 use Rattle.lama_model.specs.Graph.{Graph}
-use Rattle.lama_model.specs.Row.{row, row_at, AreRowsOf}
+use Rattle.lama_model.specs.Row.{row, row_at, rows_of, AreRowsOf}
 use Rattle.lama_model.specs.Opening.{empty_opening}
 use Rattle.lama_model.specs.Journal.{reply_at}
-use Rattle.lama_model.specs.Lines.{reply_line, refusal_line, row_line}
+use Rattle.lama_model.specs.Lines.{reply_line, refusal_line, row_line, edges_lines}
 use Rattle.lama_model.specs.Text.{read_lines, look_of}
 use Rattle.lama_model.specs.declared.calls.Write.TheVariants.{Vertices, Add, Remove, Weigh}
 use Rattle.lama_model.specs.declared.commands.Command.{Command}
 use Rattle.lama_model.specs.declared.commands.Command.TheVariants.{Write as Writes, Checkpoint as Checkpoints, Read as Reads}
 use Rattle.lama_model.specs.declared.commands.Read.{Read}
-use Rattle.lama_model.specs.declared.commands.Read.TheVariants.{Row}
+use Rattle.lama_model.specs.declared.commands.Read.TheVariants.{Row, Edges}
 use Rattle.lama_model.specs.declared.answers.Reply.{Reply}
 use Rattle.lama_model.specs.declared.answers.Reply.TheVariants.{Accepted, Count, Snapshot, Kept, Refused}
 use Rattle.lama_model.specs.declared.answers.Refusal.{Refusal}
@@ -56,3 +58,15 @@ unfolding read_lines
 row-refused g c count k v same_count past =
     let test : nat_lt v g.count ≡ false = grind (arith, nat_tests) in
     reply_line-refused c (UnknownVertex v count) ∙ (ap (λ (n : ℕ). refusal_line (UnknownVertex v n)) same_count ∙ sym (ap (λ (b : Bool). cond b (row_line k v (row g v)) (refusal_line (UnknownVertex v g.count))) test))
+
+all-rows : (g : Graph) (rows : List (List (ℕ × ℕ))) → AreRowsOf rows g → rows ≡ rows_of g
+unfolding rows_of
+all-rows g rows of =
+    ext_get_or [] rows (rows_of g) (of.count ∙ sym (length-map-range_with_len (row g) 0 g.count)) (λ v lt.
+    let below : v < g.count = (let many = of.count in omega (arith, lt, many)) in
+    of.each v below ∙ sym (get_or-map-range_with_len (row g) 0 g.count v v [] below (let e : 0 + v ≡ v = omega arith in e)))
+
+-- all rows
+pub edges-read : (g : Graph) (rows : List (List (ℕ × ℕ))) (k : ℕ) → AreRowsOf rows g → edges_lines k rows ≡ read_lines g k Edges
+unfolding read_lines
+edges-read g rows k of = ap (edges_lines k) (all-rows g rows of)

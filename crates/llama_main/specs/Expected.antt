@@ -7,7 +7,6 @@ use Rattle.lama_model.specs.Script.End.{Whole, BadAt, TooMany}
 use Rattle.lama_model.specs.Script.Meaning.{Skipped, Says, Bad}
 use Rattle.lama_model.specs.Lines.{reply_line, last_line}
 use Rattle.lama_model.specs.Text.{look_of, read_lines}
-use Rattle.lama_model.specs.declared.calls.Write.TheVariants.{Vertices, Add, Remove, Weigh}
 use Rattle.lama_model.specs.declared.calls.Call.{Call}
 use Rattle.lama_model.specs.declared.calls.Call.TheVariants.{Write as WriteCall, Checkpoint}
 use Rattle.lama_model.specs.declared.commands.Command.{Command}
@@ -62,12 +61,3 @@ unfoldable pub expected_from : Held → ℕ → List (List ℕ) → Outcome
 expected_from h n [] = ended h Whole
 expected_from h n (line ∷ rest) =
     if nat_lt 2097152 n then ended h TooMany else following h n (meaning line) (λ g. expected_from g (n + 1) rest)
-
--- a command that the store takes
-abbrev pub IsPlain : Command → Type 0
-IsPlain (Writes (Vertices n)) = Unit {0}
-IsPlain (Writes (Add u v w)) = Unit {0}
-IsPlain (Writes (Remove u v)) = ⊥
-IsPlain (Writes (Weigh u v w)) = ⊥
-IsPlain Checkpoints = Unit {0}
-IsPlain (Reads at what) = Unit {0}

@@ -5,9 +5,9 @@ ghost use Rattle.lama_model.specs.Opening.{empty_opening};
 ghost use Rattle.lama_model.specs.Row.{AreRowsOf};
 ghost use Rattle.lama_model.specs.Journal.{graph_of};
 ghost use Rattle.lama_model.specs.Text.{read_lines};
-ghost use Rattle.lama_model.specs.declared.commands.Read.TheVariants.{Row};
+ghost use Rattle.lama_model.specs.declared.commands.Read.TheVariants.{Row, Edges};
 ghost use Rattle.llama_main.specs.Store.{held_by};
-ghost use Rattle.llama_main.specs.Expected.{IsPlain, held_after, printed, expected_from};
+ghost use Rattle.llama_main.specs.Expected.{held_after, printed, expected_from};
 ghost use Rattle.llama_main.specs.Stop.{StopsAt, IsOfScript};
 ghost use Rattle.llama_main.specs.Interpreter.{expected_of, IsRunning, command_in};
 
@@ -16,7 +16,7 @@ use crate::store::Store;
 use lama_book::Looked;
 use lama_model::{Refusal, Reply, Rows};
 use lama_pages::Steps;
-use lama_script::{Command, Item, Parser, Read, ScriptFault, print_reply, print_row};
+use lama_script::{Command, Item, Parser, Read, ScriptFault, print_edges, print_reply, print_row};
 use lama_snapshot::Snapshot;
 use std::alloc::{AllocError, Global};
 use std::sync::ledger::Ledger;
@@ -91,7 +91,6 @@ impl Interpreter {
     /// Does an item and gathers what it prints.
     fn run<L: Ledger>(&mut self, item: Item, pages: &mut Steps<L>) -> Result<(), AllocError>
         requires room { length self.old.store.journal < 4194304 }
-        requires plain { IsPlain (command_in item) }
         ensures parser { self.new.parser ≡ self.old.parser }
         ensures held { OnOk result (self.new.store ≡ held_after self.old.store (command_in item)) }
         ensures printed { OnOk result (self.new.out.items ≡ self.old.out.items ++ printed self.old.store (command_in item)) }
@@ -105,7 +104,6 @@ impl Interpreter {
     /// Makes the command's call and gathers what it prints.
     fn obey<L: Ledger>(&mut self, command: &Command, pages: &mut Steps<L>) -> Result<(), AllocError>
         requires room { length self.old.store.journal < 4194304 }
-        requires plain { IsPlain command.now }
         ensures parser { self.new.parser ≡ self.old.parser }
         ensures held { OnOk result (self.new.store ≡ held_after self.old.store command.now) }
         ensures printed { OnOk result (self.new.out.items ≡ self.old.out.items ++ printed self.old.store command.now) }
@@ -140,6 +138,7 @@ impl Interpreter {
     {
         match what {
             Read::Row { v } => self.read_row(command, snapshot, v),
+            Read::Edges => self.read_edges(snapshot),
         }
     }
 
@@ -158,5 +157,16 @@ impl Interpreter {
             let refusal = Refusal::UnknownVertex { vertex: v, count };
             print_reply(&mut self.out, command, &Reply::Refused(refusal))
         }
+    }
+
+    /// Reads all edges.
+    fn read_edges(&mut self, snapshot: &Snapshot) -> Result<(), AllocError>
+        requires { AreRowsOf snapshot.now.rows (graph_of empty_opening self.old.store.standing snapshot.now.number) }
+        ensures parser { self.new.parser ≡ self.old.parser }
+        ensures store { self.new.store ≡ self.old.store }
+        ensures printed { OnOk result (self.new.out.items ≡ self.old.out.items ++ read_lines (graph_of empty_opening self.old.store.standing snapshot.now.number) snapshot.now.number Edges) }
+        ensures err { OnErr result (self.new.out.items ≡ self.old.out.items) }
+    {
+        print_edges(&mut self.out, snapshot.number(), snapshot)
     }
 }

@@ -7,7 +7,6 @@ ghost use Rattle.lama_model.specs.Journal.{reply_at};
 ghost use Rattle.lama_model.specs.Text.{look_of};
 ghost use Rattle.lama_model.specs.declared.answers.Reply.TheVariants.{Snapshot as SeenSnapshot};
 ghost use Rattle.lama_model.specs.declared.calls.Call.TheVariants.{Write as WriteCall, Checkpoint, Look, LookAt};
-ghost use Rattle.lama_delta.specs.Pending.{IsAddition};
 ghost use Rattle.lama_book.specs.Relation.{IsBookOf};
 ghost use Rattle.llama_main.specs.Store.{held_by, called, IsFound};
 
@@ -63,10 +62,9 @@ impl Store {
         self.book.journal().len() as u32
     }
 
-    /// Takes a write that adds vertices or an edge.
+    /// Takes a write.
     pub fn write(&mut self, w: Write) -> Result<Reply, AllocError>
         requires room { length self.old.journal < 4194304 }
-        requires addition { IsAddition w }
         ensures reply { IfOk result (λ r. r ≡ reply_at empty_opening self.old.standing (WriteCall w)) }
         ensures after { OnOk result (self.new ≡ called self.old (WriteCall w)) }
         ensures err { OnErr result (self.new ≡ self.old) }

@@ -101,6 +101,57 @@ fn scripts_give_their_texts(rt: HostRuntime) -> Result<(), Fail> {
 }
 
 #[test]
+fn deletions_and_weights_wait_for_a_checkpoint(rt: HostRuntime) -> Result<(), Fail> {
+    let done: [(&[u8], &[u8]); 9] = [
+        // Parallel edges go together, and what is added after the deletion stays.
+        (
+            b"vertices 2\nadd 0 0\nadd 0 1\nadd 0 1\ndel 0 1\nadd 0 1 7\ncheckpoint\nrow 0\n",
+            b"vertices 2\nsnapshot 1\nrow 1 0 : 1/7 0/1\nend 8\n",
+        ),
+        (
+            b"vertices 2\nadd 0 1 5\ncheckpoint\nadd 0 1 6\nweigh 0 1 9\ncheckpoint\n@1 row 0\nrow 0\n",
+            b"vertices 2\nsnapshot 1\nsnapshot 2\nrow 1 0 : 1/5\nrow 2 0 : 1/9 1/9\nend 8\n",
+        ),
+        (
+            b"vertices 2\ndel 0 1\ncheckpoint\nedges\n",
+            b"vertices 2\nsnapshot 1\nedges 1 0\nend 4\n",
+        ),
+        (
+            b"checkpoint\ncheckpoint\n@1 edges\nedges\n",
+            b"snapshot 1\nsnapshot 2\nedges 1 0\nedges 2 0\nend 4\n",
+        ),
+        // A loop is deleted and added again between two checkpoints.
+        (
+            b"vertices 1\nadd 0 0 3\ncheckpoint\ndel 0 0\nadd 0 0 4\ncheckpoint\nrow 0\n@1 row 0\nedges\n",
+            b"vertices 1\nsnapshot 1\nsnapshot 2\nrow 2 0 : 0/4\nrow 1 0 : 0/3\nedges 2 1\n0 0 4\nend 9\n",
+        ),
+        // Two parallel edges of two levels get one weight, and are deleted a checkpoint later.
+        (
+            b"vertices 2\nadd 0 1 5\ncheckpoint\nadd 0 1 6\ncheckpoint\nweigh 0 1 9\ncheckpoint\ndel 0 1\ncheckpoint\n@1 row 0\n@2 row 0\n@3 row 0\nrow 0\n",
+            b"vertices 2\nsnapshot 1\nsnapshot 2\nsnapshot 3\nsnapshot 4\nrow 1 0 : 1/5\nrow 2 0 : 1/6 1/5\nrow 3 0 : 1/9 1/9\nrow 4 0 :\nend 13\n",
+        ),
+        // An edge that a later snapshot has no more is still in the earlier one.
+        (
+            b"vertices 2\nadd 0 1 5\nadd 1 0\ncheckpoint\ndel 0 1\ncheckpoint\nedges\n@1 edges\n",
+            b"vertices 2\nsnapshot 1\nsnapshot 2\nedges 2 1\n1 0 1\nedges 1 2\n0 1 5\n1 0 1\nend 8\n",
+        ),
+        // What names no edge changes nothing.
+        (
+            b"vertices 2\nadd 0 0\ncheckpoint\ndel 0 1\nweigh 1 0 3\ncheckpoint\nedges\n",
+            b"vertices 2\nsnapshot 1\nsnapshot 2\nedges 2 1\n0 0 1\nend 7\n",
+        ),
+        (
+            b"vertices 1\ndel 0 1\nweigh 2 0 5\n@1 edges\n",
+            b"vertices 1\nunknown vertex 1 of 1\nunknown vertex 2 of 1\nno snapshot 1 of 0 0\nend 4\n",
+        ),
+    ];
+    for (script, text) in done {
+        gives(&rt, script, text, Status::Done)?;
+    }
+    Ok(())
+}
+
+#[test]
 fn a_bad_line_is_named(rt: HostRuntime) -> Result<(), Fail> {
     gives(&rt, b"x\n", b"bad line 1\n", Status::BadLine { line: 1 })?;
     let text = b"vertices 1\nbad line 2\n";

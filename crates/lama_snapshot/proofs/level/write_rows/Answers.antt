@@ -5,9 +5,9 @@ use Rattle.lama_edges.specs.declared.records.VertexRec.{VertexRec}
 use Rattle.lama_model.specs.Change.{RowChange}
 use Rattle.lama_delta.specs.Seen.{seen_row, seen_rows}
 use Rattle.lama_snapshot.specs.Snap.{no_record}
-use Rattle.lama_snapshot.specs.Written.{IsWritten, slots_of}
+use Rattle.lama_snapshot.specs.Written.{IsWritten, IsWithin, slots_of}
 use Rattle.lama_snapshot.proofs.ChainLemmas.{get-map}
-use Rattle.lama_snapshot.proofs.WriteLemmas.{written-more, written-slots, rising-below, room-at, added-at, pages-le}
+use Rattle.lama_snapshot.proofs.WriteLemmas.{record-before, written-more, written-slots, rising-below, room-at, added-at, pages-le}
 use Rattle.lama_snapshot.proofs.level.write_rows.Goals as goal
 
 pub write_row-requires-clause-source : goal.write_row-requires-clause-source
@@ -35,16 +35,36 @@ pub write_row-requires-clause-degree : goal.write_row-requires-clause-degree
 write_row-requires-clause-degree g c =
     let r = seen_row c.row-item.result in
     let rows = seen_rows c.args.rows.now in
-    let lt : c.loop-row.row-index < length rows = let n = length-map c.args.rows.now seen_row in let t = c.loop-row-test.true in omega (arith, n, t) in
-    let is : get_or rows c.loop-row.row-index r ≡ r = get-map seen_row c.args.rows.now c.loop-row.row-index c.row-item.result r c.loop-row-test.true ∙ ap seen_row (sym c.row-item.is) in
-    let added = added-at rows c.loop-row.row-index r lt is in
-    let s = c.requires.sources c.loop-row.row-index r lt in
+    let i = c.loop-row.row-index in
+    let lt : i < length rows = let n = length-map c.args.rows.now seen_row in let t = c.loop-row-test.true in omega (arith, n, t) in
+    let is : get_or rows i r ≡ r = get-map seen_row c.args.rows.now i c.row-item.result r c.loop-row-test.true ∙ ap seen_row (sym c.row-item.is) in
+    let s = c.requires.sources i r lt in
     let e = ap (λ (x : RowChange). x.source) is in
     let len = c.loop-row.invariant.written.len in
-    let one = get_or-le-sum_by (λ (x : VertexRec). x.degree) c.loop-row.edit.items c.row-item.result.source no_record (omega (arith, s, e, len)) in
-    let degrees = c.loop-row.invariant.written.degrees in
-    let all = c.requires.degrees in
-    omega (arith, added, one, degrees, all)
+    let at : r.source < length c.args.edit.now.items = omega (arith, s, e) in
+    let old = record-before c.args.number c.args.edit.now.items (take i rows) r c.loop-row.writer.slots c.loop-row.writer.weights c.loop-row.edit.items c.loop-row.invariant.written at (rising-below rows i r c.requires.rising lt is) in
+    let added = added-at rows i r lt is in
+    let all = c.requires.added in
+    let few = c.requires.degrees in
+    let one = get_or-le-sum_by (λ (x : VertexRec). x.degree) c.args.edit.now.items r.source no_record at in
+    let same = ap (λ (x : VertexRec). x.degree) old in
+    omega (arith, added, all, few, one, same)
+
+pub write_row-requires-clause-killed : goal.write_row-requires-clause-killed
+write_row-requires-clause-killed g c =
+    let r = seen_row c.row-item.result in
+    let rows = seen_rows c.args.rows.now in
+    let i = c.loop-row.row-index in
+    let lt : i < length rows = let n = length-map c.args.rows.now seen_row in let t = c.loop-row-test.true in omega (arith, n, t) in
+    let is : get_or rows i r ≡ r = get-map seen_row c.args.rows.now i c.row-item.result r c.loop-row-test.true ∙ ap seen_row (sym c.row-item.is) in
+    let s = c.requires.sources i r lt in
+    let e = ap (λ (x : RowChange). x.source) is in
+    let len = c.loop-row.invariant.written.len in
+    let at : r.source < length c.args.edit.now.items = omega (arith, s, e) in
+    let old = record-before c.args.number c.args.edit.now.items (take i rows) r c.loop-row.writer.slots c.loop-row.writer.weights c.loop-row.edit.items c.loop-row.invariant.written at (rising-below rows i r c.requires.rising lt is) in
+    let within = subst (IsWithin c.args.edit.now.items) is (c.requires.killed i r lt) in
+    let same = ap (λ (x : VertexRec). x.degree) old in
+    omega (arith, within, same)
 
 pub returns-in_err-write_row-clause-made : goal.returns-in_err-write_row-clause-made
 returns-in_err-write_row-clause-made g c =
@@ -64,12 +84,17 @@ loop-row-preserved g c =
     let i = c.loop-row.row-index in
     let lt : i < length rows = let n = length-map c.args.rows.now seen_row in let t = c.loop-row-test.true in omega (arith, n, t) in
     let is : get_or rows i r ≡ r = get-map seen_row c.args.rows.now i c.row-item.result r c.loop-row-test.true ∙ ap seen_row (sym c.row-item.is) in
-    let more : take i rows ++ r ∷ [] ≡ take (i + 1) rows = sym (take_more rows i r lt ∙ ap (λ x. take i rows ++ x ∷ []) is) in
     let s = c.requires.sources i r lt in
     let e = ap (λ (x : RowChange). x.source) is in
+    let len = c.loop-row.invariant.written.len in
+    let at : r.source < length c.args.edit.now.items = omega (arith, s, e) in
+    let old = record-before c.args.number c.args.edit.now.items (take i rows) r c.loop-row.writer.slots c.loop-row.writer.weights c.loop-row.edit.items c.loop-row.invariant.written at (rising-below rows i r c.requires.rising lt is) in
+    let more : take i rows ++ r ∷ [] ≡ take (i + 1) rows = sym (take_more rows i r lt ∙ ap (λ x. take i rows ++ x ∷ []) is) in
+    let within = subst (IsWithin c.args.edit.now.items) is (c.requires.killed i r lt) in
+    let same = ap (λ (x : VertexRec). x.degree) old in
     let ok = c.in_ok-write_row.ensures in
     let w = written-more c.args.number c.args.edit.now.items (take i rows) r c.loop-row.writer.slots c.write_row.new.writer.slots c.loop-row.writer.weights c.write_row.new.writer.weights c.loop-row.edit.items c.write_row.new.edit.items
-    c.loop-row.invariant.written (omega (arith, s, e)) (rising-below rows i r c.requires.rising lt is) ok.wrote.slots_are ok.wrote.weights_are ok.records in
+    c.loop-row.invariant.written at (rising-below rows i r c.requires.rising lt is) (omega (arith, within, same)) ok.wrote.slots_are ok.wrote.weights_are ok.records in
     record {
       even = ok.wrote.even;
       written = subst (λ xs. IsWritten c.args.number c.args.edit.now.items xs c.write_row.new.writer.slots c.write_row.new.writer.weights c.write_row.new.edit.items) more w;

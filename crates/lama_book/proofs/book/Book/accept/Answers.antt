@@ -25,7 +25,7 @@ invariant_of-self c =
     let old = ap (λ (x : Book). length x.journal) c.self.view_is in
     let more = ap length c.push_reserved.ensures.items in
     let push = length_push c.self.inside.journal.items c.args.entry in
-    let whole = write-whole b c.args.w t.journal t.spare c.self.invariant c.requires.addition (subst (λ x. is_accepted (answers x (Writes c.args.w)) ≡ true) (sym c.self.view_is) c.requires.accepted) (omega (arith, calls, old, more, push)) in
+    let whole = write-whole b c.args.w t.journal t.spare c.self.invariant (subst (λ x. is_accepted (answers x (Writes c.args.w)) ≡ true) (sym c.self.view_is) c.requires.accepted) (omega (arith, calls, old, more, push)) in
     let one : b.pending ++ c.args.w ∷ [] ≡ t.pending = sym c.push.ensures.writes in
     let two : (effect c.args.w (record { count = b.count; edges = [] })).count ≡ t.count = c.more_vertices.ensures b.count in
     let three : b.added + edges_added c.args.w ≡ t.added = ap (λ k. b.added + k) (sym c.more_edges.ensures) in

@@ -1,8 +1,6 @@
-use Rattle.std.proofs.Common.{◌∙◌, ◌+◌, length, refl, sym, ap, subst, arith}
+use Rattle.std.proofs.Common.{◌∙◌, ◌+◌, length, refl, sym, ap, arith}
 use Rattle.std.specs.Arc.{arc_value}
 use Rattle.std.proofs.lemmas.List.{length-map}
-use Rattle.std.specs.Prelude.{All}
-use Rattle.lama_delta.specs.Pending.{IsAddition}
 use Rattle.lama_model.specs.declared.calls.Entry.{Entry}
 use Rattle.lama_model.specs.Journal.{is_accepted}
 use Rattle.lama_model.specs.declared.calls.Call.TheVariants.{Checkpoint}
@@ -74,4 +72,4 @@ returns-clause-book g c = λ o of.
     let some = c.self.invariant.some_kept in
     let made = checkpoint-made mid (omega (arith, few, n)) (omega (arith, some, kept)) (omega (arith, less, len, kept, size)) in
     let e : Entry = record { caller = c.args.caller; call = Checkpoint } in
-    checkpoint-stays o mid c.note.new.self e (subst (λ (b : Book). All IsAddition b.pending) c.self.view_is c.self.invariant.only_adds) (next-entry mid c.keep_next.new.self c.note.new.self e c.in-Ok.ensures.next c.note.ensures) refl (ap is_accepted made) (roomier o c.args.self.now mid c.in_ok-enter.ensures.same of)
+    checkpoint-stays o mid c.note.new.self e (next-entry mid c.keep_next.new.self c.note.new.self e c.in-Ok.ensures.next c.note.ensures) refl (ap is_accepted made) (roomier o c.args.self.now mid c.in_ok-enter.ensures.same of)

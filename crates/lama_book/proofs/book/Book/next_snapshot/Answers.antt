@@ -20,4 +20,4 @@ returns-clause-next g c =
     let last : c.deref-last.result.now ≡ last_snap b = read-last c.self.inside.kept.items b c.len.result c.index.result.now c.deref-last.result.now (ap (λ (x : Book). x.kept) c.self.view_is) (let l = c.len.ensures in omega (arith, l)) whole.some_kept c.index.ensures c.deref-last.ensures in
     let change : arc_value c.in_ok-new.field-0 ≡ next_change b = made-change b c.deref-last.result.now (arc_value c.in_ok-new.field-0) c.in_ok-change.change c.self.inside.delta.writes c.newest-number.result c.self.inside.count last c.in_ok-new.ensures.ok c.in_ok-change.ensures (ap (λ (x : Book). x.pending) c.self.view_is) c.newest-number.ensures (ap (λ (x : Book). x.count) c.self.view_is) in
     let e = c.in_ok-next.ensures in
-    next-from b c.in_ok-next.next c.deref-last.result.now (arc_value c.in_ok-new.field-0) whole last change (record { number = e.number; count = e.count; rows = e.rows; base = e.base; changes = e.changes; edges = e.edges })
+    next-from b c.in_ok-next.next c.deref-last.result.now (arc_value c.in_ok-new.field-0) last change (record { number = e.number; count = e.count; rows = e.rows; base = e.base; changes = e.changes; edges = e.edges })

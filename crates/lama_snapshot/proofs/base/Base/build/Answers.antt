@@ -1,4 +1,4 @@
-use Rattle.std.proofs.Common.{◌≡◌, ◌∙◌, ℕ, ◌+◌, ◌*◌, ◌/◌, ◌%◌, ◌<◌, ◌++◌, ◌∷◌, [], length, take, ap, sym, subst, arith, refl, cond, eqb}
+use Rattle.std.proofs.Common.{◌≡◌, ◌∙◌, ℕ, ◌+◌, ◌*◌, ◌/◌, ◌%◌, ◌<◌, ◌++◌, ◌∷◌, [], length, take, ap, sym, subst, arith, refl, cond, eqb, replicate}
 use Rattle.std.proofs.lemmas.List.{take_all, length-take, length-take-le, length-append}
 use Rattle.lama_edges.specs.declared.records.VertexRec.{VertexRec}
 use Rattle.lama_edges.specs.declared.records.Slot.TheVariants.{End}
@@ -6,7 +6,7 @@ use Rattle.lama_model.specs.Row.{row_at, edges_in, AreTargetsBelow}
 use Rattle.lama_snapshot.specs.Fragments.{fragment_slots, fragment_weights}
 use Rattle.lama_snapshot.specs.BaseRows.{base_slots, base_weights, base_records}
 use Rattle.lama_snapshot.proofs.RowFrom.{base_slots-more, base_weights-more, base_records-more, length-fragment, length-base_records}
-use Rattle.lama_snapshot.proofs.BuildLemmas.{slots-up-to, slots-at-most, is-base, built, pages-next, pages-row, pages-record, pages-all, pages-step}
+use Rattle.lama_snapshot.proofs.BuildLemmas.{slots-up-to, slots-at-most, is-base, built, pages-next, pages-row, pages-record, pages-all, pages-marked, pages-step}
 use Rattle.lama_snapshot.proofs.base.Base.build.Goals as goal
 
 pub row-requires-clause-room : goal.row-requires-clause-room
@@ -84,9 +84,10 @@ invariant_of-result g c =
     let n = c.count-count.ensures.count in let t = c.loop-v-test.false in let e = c.loop-v.auto.v-end in
     let all : take c.loop-v.v rows ≡ rows = take_all c.loop-v.v rows (omega (arith, n, t)) in
     let targets : AreTargetsBelow (length rows) rows = subst (λ k. AreTargetsBelow k rows) n c.count-count.ensures.targets in
-    is-base c.args.number c.in_ok-vertices.vertices c.in_ok-edges.edges c.in_ok-edges.weights rows
+    is-base c.args.number c.in_ok-vertices.vertices c.in_ok-edges.edges c.in_ok-hidden.hidden c.in_ok-edges.weights rows
     (c.in_ok-vertices.ensures ∙ (c.loop-v.invariant.records ∙ ap (base_records c.args.number 0) all))
     (c.in_ok-edges.ensures.slots ∙ (c.loop-v.invariant.slots ∙ ap base_slots all))
+    (c.in_ok-hidden.ensures.marks ∙ ap (λ k. replicate k 0) c.len.ensures)
     (c.in_ok-edges.ensures.weights ∙ (c.loop-v.invariant.weights ∙ ap base_weights all))
     targets c.requires.edges c.requires.vertices c.requires.number
 
@@ -100,11 +101,20 @@ returns-clause-rows g c =
     (c.in_ok-edges.ensures.slots ∙ (c.loop-v.invariant.slots ∙ ap base_slots all))
     (c.in_ok-edges.ensures.weights ∙ (c.loop-v.invariant.weights ∙ ap base_weights all))
 
+pub returns-in_err-hidden-clause-made : goal.returns-in_err-hidden-clause-made
+returns-in_err-hidden-clause-made g c =
+    let rows = g.R.Rows.rows c.args.rows.now in
+    let n = c.count-count.ensures.count in let t = c.loop-v-test.false in let e = c.loop-v.auto.v-end in
+    let is : c.loop-v.v ≡ length rows = omega (arith, n, t, e) in
+    pages-marked c.loop-v.pages c.standing.new.pages c.args.pages.now (length c.loop-v.writer.slots) (length rows) (edges_in rows) c.standing.ensures.made
+    (c.loop-v.invariant.made ∙ ap (λ k. c.args.pages.now + 2 * ((length c.loop-v.writer.slots + 255) / 256) + (k + 255) / 256) is)
+    (slots-at-most c.loop-v.writer.slots rows c.loop-v.v c.loop-v.invariant.slots)
+
 pub returns-clause-made : goal.returns-clause-made
 returns-clause-made g c =
     let rows = g.R.Rows.rows c.args.rows.now in
     let n = c.count-count.ensures.count in let t = c.loop-v-test.false in let e = c.loop-v.auto.v-end in
     let is : c.loop-v.v ≡ length rows = omega (arith, n, t, e) in
-    pages-all c.loop-v.pages c.args.pages.now (length c.loop-v.writer.slots) (length rows) (edges_in rows)
+    pages-marked c.loop-v.pages c.standing.new.pages c.args.pages.now (length c.loop-v.writer.slots) (length rows) (edges_in rows) c.standing.ensures.made
     (c.loop-v.invariant.made ∙ ap (λ k. c.args.pages.now + 2 * ((length c.loop-v.writer.slots + 255) / 256) + (k + 255) / 256) is)
     (slots-at-most c.loop-v.writer.slots rows c.loop-v.v c.loop-v.invariant.slots)

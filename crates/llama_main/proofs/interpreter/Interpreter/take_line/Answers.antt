@@ -1,14 +1,7 @@
 use Rattle.std.proofs.Common.{◌≤◌, ◌∙◌, ap, subst, sym, Ok, Err}
 use Rattle.std.proofs.lemmas.Result.{IfOk-at_ok}
-use Rattle.llama_main.specs.Interpreter.{command_in}
-use Rattle.llama_main.proofs.Plain.{IsPlain-said}
-use Rattle.llama_main.proofs.LineMeanings.{answered_item, answered_bad, answered_many, next_skipped, next_says, taken_within, expected_bad, expected_many}
+use Rattle.llama_main.proofs.LineMeanings.{answered_bad, answered_many, next_skipped, next_says, taken_within, expected_bad, expected_many}
 use Rattle.llama_main.proofs.interpreter.Interpreter.take_line.Goals as goal
-
-pub run-requires-clause-plain : goal.run-requires-clause-plain
-run-requires-clause-plain g c =
-    let found = answered_item c.args.self.now.parser c.args.line.now c.line.result c.in-Ok-Some.item c.requires.whole c.line.ensures.answer (c.in-Ok-Some.is ∙ ap Ok c.in-Ok-Some.field-0-is) in
-    IsPlain-said c.args.line.now (command_in c.in-Ok-Some.item) found.says
 
 pub returns-in-Ok-None-clause-ok : goal.returns-in-Ok-None-clause-ok
 returns-in-Ok-None-clause-ok g c = λ rest.

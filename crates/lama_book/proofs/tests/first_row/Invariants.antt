@@ -1,0 +1,8 @@
+use Rattle.std.proofs.Common.{length}
+use Rattle.lama_book.proofs.tests.first_row.Given as goal
+
+abbrev pub invariant-loop-target : goal.invariant-loop-target
+invariant-loop-target g l = g.R.Rows.is_place l.rows l.at
+
+abbrev pub decreases-loop-target : goal.decreases-loop-target
+decreases-loop-target g l = length (g.R.Rows.suffix l.rows l.at)

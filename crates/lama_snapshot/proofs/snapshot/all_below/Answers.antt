@@ -1,0 +1,14 @@
+use Rattle.std.proofs.Common.{◌≡◌, ◌-◌, ◌<◌, ltb, length, get_or, arith, true}
+use Rattle.std.proofs.lemmas.Bool.Decides.{nat_tests}
+use Rattle.std.proofs.lemmas.List.{get_or_default}
+use Rattle.lama_snapshot.proofs.Limits.{all-below}
+use Rattle.lama_snapshot.proofs.snapshot.all_below.Goals as goal
+
+pub returns : goal.returns
+returns c =
+    let ks = c.args.indexes.now in
+    let none = c.if-is_empty.ensures in
+    let some : 0 < length ks = grind (arith, nat_tests, none) in
+    let last = get_or ks (length ks - 1) 0 in
+    let both = all-below ks c.args.len last c.requires some (get_or_default ks (length ks - 1) 0 last (omega (arith, some))) in
+    (λ t. both.0 (let lt : last < c.args.len = grind (arith, nat_tests, t) in lt), λ all. let lt = both.1 all in let t : ltb last c.args.len ≡ true = grind (arith, nat_tests, lt) in t)
