@@ -5,3 +5,4 @@ pub mod RowLemmas
 pub mod Effects
 pub mod Valid
 pub mod Counted
+pub mod Sieves

@@ -2,3 +2,4 @@ pub mod Seen
 pub mod Pending
 pub mod EdgeWrites
 pub mod RowWrites
+pub mod Sieve

@@ -9,6 +9,7 @@ mod delta;
 mod edge_writes;
 mod grouping;
 mod row_writes;
+mod sieve;
 
 pub use change::{Change, RowChange};
 pub use delta::Delta;

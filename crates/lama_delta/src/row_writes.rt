@@ -7,9 +7,11 @@ ghost use Rattle.lama_delta.specs.Seen.{seen_row};
 ghost use Rattle.lama_delta.specs.declared.edge_writes.Act.TheVariants.{Add as SeenAdd, Weigh as SeenWeigh};
 ghost use Rattle.lama_delta.specs.declared.row_writes.Fate.TheVariants.{Weight as SeenWeight};
 ghost use Rattle.lama_delta.specs.RowWrites.{fate_before, fate_of, new_pair, left_of, gone_here, set_here, gone_from, set_from, change_of};
+ghost use Rattle.lama_delta.specs.Sieve.{IsSieve};
 
 use crate::RowChange;
 use crate::edge_writes::{Act, EdgeWrite};
+use crate::sieve::{fate_to, sieve_of};
 use lama_model::Rows;
 use std::alloc::{AllocError, Global};
 use std::collections::BTreeMap;
@@ -47,7 +49,7 @@ pub(crate) fn row_change<R: Rows>(
     ensures { IfOk result (λ row. seen_row row ≡ change_of source writes.now (row_at (R.rows rows.now) source)) }
 {
     let Later { fates, added } = later_of(alloc, writes)?;
-    let OldEdges { killed, set } = old_edges(alloc, rows, source, &fates)?;
+    let OldEdges { killed, set } = old_edges(alloc, rows, source, writes, &fates)?;
     Ok(RowChange {
         source,
         added,
@@ -62,12 +64,20 @@ fn later_of(alloc: Global, writes: &[EdgeWrite]) -> Result<Later, AllocError>
 {
     let mut later = Later {
         fates: BTreeMap::new(alloc),
-        added: Vec::new(alloc),
+        added: Vec::with_capacity(alloc, additions_in(writes))?,
     };
     for i in 0..writes.len() {
         later.put_before(writes[writes.len() - 1 - i])?;
     }
     Ok(later)
+}
+
+// How many of the writes add an edge.
+fn additions_in(writes: &[EdgeWrite]) -> usize {
+    writes
+        .iter()
+        .filter(|write| matches!(write.act, Act::Add(_)))
+        .count()
 }
 
 impl Later {
@@ -132,8 +142,10 @@ fn old_edges<R: Rows>(
     alloc: Global,
     rows: &R,
     source: u32,
+    writes: &[EdgeWrite],
     fates: &BTreeMap<u32, Fate>,
 ) -> Result<OldEdges, AllocError>
+    requires { (v : ℕ) → get nat_cmp fates.now v ≡ fate_of writes.now v }
     ensures killed { IfOk result (λ o. o.killed.items ≡ gone_from 0 (get nat_cmp fates.now) (row_at (R.rows rows.now) source)) }
     ensures set { IfOk result (λ o. o.set.items ≡ set_from 0 (get nat_cmp fates.now) (row_at (R.rows rows.now) source)) }
 {
@@ -147,7 +159,8 @@ fn old_edges<R: Rows>(
     if source >= rows.count() {
         return Ok(old);
     }
-    old.walk(rows, source, fates)?;
+    let marks = sieve_of(alloc, writes)?;
+    old.walk(rows, source, &marks, fates)?;
     Ok(old)
 }
 
@@ -157,9 +170,11 @@ impl OldEdges {
         &mut self,
         rows: &R,
         source: u32,
+        marks: &[bool],
         fates: &BTreeMap<u32, Fate>,
     ) -> Result<(), AllocError>
-        requires { source < length (R.rows rows.now) }
+        requires source { source < length (R.rows rows.now) }
+        requires sieve { IsSieve marks.now (get nat_cmp fates.now) }
         ensures killed { OnOk result (self.new.killed.items ≡ self.old.killed.items ++ gone_from 0 (get nat_cmp fates.now) (row_at (R.rows rows.now) source)) }
         ensures set { OnOk result (self.new.set.items ≡ self.old.set.items ++ set_from 0 (get nat_cmp fates.now) (row_at (R.rows rows.now) source)) }
     {
@@ -167,7 +182,7 @@ impl OldEdges {
         let mut left = degree;
         let mut at = rows.start(source);
         while let Some((target, weight, rest)) = rows.next(at) {
-            self.note(degree - left, weight, fates.get(&target).copied())?;
+            self.note(degree - left, weight, fate_to(marks, fates, target))?;
             left -= 1;
             at = rest;
         }
@@ -175,6 +190,7 @@ impl OldEdges {
     }
 
     // Notes what becomes of the edge of that index and weight.
+    #[inline(always)]
     fn note(&mut self, index: u32, weight: u64, fate: Option<Fate>) -> Result<(), AllocError>
         ensures killed { OnOk result (self.new.killed.items ≡ self.old.killed.items ++ gone_here index fate) }
         ensures set { OnOk result (self.new.set.items ≡ self.old.set.items ++ set_here index weight fate) }

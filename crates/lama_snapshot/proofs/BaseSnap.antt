@@ -10,7 +10,7 @@ use Rattle.lama_snapshot.specs.BaseRows.{Numbered, base_records, base_slots, bas
 use Rattle.lama_snapshot.specs.Cells.{Columns, mark_at, visible}
 use Rattle.lama_snapshot.specs.Chains.{table_at, base_places, IsRecord, rows_from, cells_of, AreColumns}
 use Rattle.lama_snapshot.specs.Snap.{no_record, layout_of, IsSnap}
-use Rattle.lama_snapshot.proofs.RowFrom.{flat_map-append, base-record, length-base_records, base_records-at, length-base_weights}
+use Rattle.lama_snapshot.proofs.RowFrom.{length-base_slots, flat_map-append, base-record, length-base_records, base_records-at, length-base_weights}
 use Rattle.lama_snapshot.proofs.CellsFrom.{length-base_sources, owned-base, apart-base}
 use Rattle.lama_snapshot.proofs.ChainLemmas.{length-rows_from, cells_of-at, row-visible}
 use Rattle.lama_snapshot.proofs.Surviving.{fresh}
@@ -90,5 +90,6 @@ base-snap b records is few vertices targets number =
         few = few;
         targets = subst (λ rs. AreTargetsBelow (length records) rs) (sym rows) (subst (λ k. AreTargetsBelow k b.rows) (sym n) targets);
         base_rows = omega (arith, n);
+        base_slots = (let s = length-base_slots b.rows in omega (arith, s, few, vertices));
       },
     )

@@ -179,6 +179,7 @@ snap-after n e records base levels cols h c valid fits t table sources weights w
             (subst (λ k. All (λ p. p.0 < k) (row_after c.rows v (row_at (rows_from l cols records) v))) (sym many)
             (targets-after (length records) c.count v (row_at (rows_from l cols records) v) le (row-below v) c.rows valid.rows))));
         base_rows = omega (arith, few, le, many);
+        base_slots = h.base_slots;
       };
       count = omega (arith, len', many);
       rows = row;

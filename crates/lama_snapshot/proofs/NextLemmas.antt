@@ -5,6 +5,7 @@ use Rattle.std.specs.Arc.{arc_value}
 use Rattle.std.specs.declared.sync.Arc.{Arc}
 use Rattle.std.specs.declared.alloc.Global.{Global}
 use Rattle.std.proofs.lemmas.Bool.{cases_lt}
+use Rattle.std.proofs.lemmas.List.{get_or_past}
 use Rattle.std.proofs.lemmas.Option.{slice_get_within}
 use Rattle.lama_edges.specs.declared.records.Slot.{Slot}
 use Rattle.lama_edges.specs.declared.records.Slot.TheVariants.{Edge, Next}
@@ -14,7 +15,7 @@ use Rattle.lama_snapshot.specs.declared.snapshot.Snapshot.TheInside.{Inside}
 use Rattle.lama_snapshot.specs.Levels.{table_of}
 use Rattle.lama_snapshot.specs.BaseRows.{Numbered, base_slots}
 use Rattle.lama_snapshot.specs.Cells.{Columns}
-use Rattle.lama_snapshot.specs.Chains.{Table, no_table, Layout, table_at, chain, place_row, place_cells, IsPlace, AreColumns}
+use Rattle.lama_snapshot.specs.Chains.{Table, no_table, Layout, table_at, chain, place_row, place_cells, IsPlace, slot_at, IsAtCell, base_table, AreColumns}
 use Rattle.lama_snapshot.specs.Snap.{Snap, IsTable, IsCell}
 use Rattle.lama_snapshot.specs.Shown.{shown}
 use Rattle.lama_snapshot.proofs.CellsFrom.{length-base_sources}
@@ -52,20 +53,38 @@ cell-below l cols o t h is =
     let s = length-base_sources 0 l.base in
     cell-in l cols 0 o h (omega arith) (omega (arith, lt, s))
 
--- an edge that was read
+-- a slot that is there is in one of the tables
+pub cell-within : (l : Layout) (c : Cell) (s : Slot) → slot_at l c ≡ Some s → c.table ≤ length l.levels
+cell-within l c s is = by (cases_lt (length l.levels) c.table)
+  where
+    by : (length l.levels < c.table) ⊎ (c.table ≤ length l.levels) → c.table ≤ length l.levels
+    by (inr le) = le
+    by (inl past) =
+        let none = ap (λ (t : Table). t.slots) (get_or_past (base_table l.base ∷ l.levels) c.table no_table (omega (arith, past))) in
+        absurd (let lt = slice_get_within [] c.place s (ap (λ (xs : List Slot). slice_get xs c.place) (sym none) ∙ is) in omega (arith, lt))
+
+-- the slots of a level are those of its table
+pub slots-above : (l : Layout) (level : ℕ) → l.floor < level → (level_table l level).slots ≡ (table_at l (level - l.floor)).slots
+slots-above l level above =
+    let r : suc (level - l.floor - 1) ≡ level - l.floor = omega (arith, above) in
+    ap (λ k. (table_at l k).slots) r
+
+-- an edge that was found
 pub edge-returns : (l : Layout) (cols : Columns) (count : ℕ) (slots : List Slot) (sv slevel so sleft v level r o left : ℕ) → IsPlace l count v level o left → place_row l v level o left ≡ place_row l sv slevel so sleft → v ≡ sv →
     EdgeStep l slots v level r o left → IsCell cols (record { table = r; place = o }) →
-    (t : ℕ) (c : Cell) (v' level' o' left' : ℕ) → slice_get slots o ≡ Some (Edge t) → c.table ≡ r → c.place ≡ o → v' ≡ v → level' ≡ level → o' ≡ o + 1 → left' ≡ left - 1 →
-    IsPlace l count v' level' o' left' × IsCell cols c × (v' ≡ sv) × (place_cells l sv slevel so sleft ≡ (t, c) ∷ place_cells l v' level' o' left')
-edge-returns l cols count slots sv slevel so sleft v level r o left place same from s cell t c v' level' o' left' slot et ep ev el eo er =
-    let target : Some (Edge s.target) ≡ Some (Edge t) = sym s.slot_is ∙ slot in
-    let t' : s.target ≡ t = cc in
-    let P : Cell × ℕ × ℕ × ℕ × ℕ → Type 0 = λ p. IsPlace l count p.1 p.2 p.3 p.4 × IsCell cols p.0 × (p.1 ≡ sv) × (place_cells l sv slevel so sleft ≡ (t, p.0) ∷ place_cells l p.1 p.2 p.3 p.4) in
+    slots ≡ (table_at l r).slots → (c : Cell) (v' level' o' left' : ℕ) → c.table ≡ r → c.place ≡ o → v' ≡ v → level' ≡ level → o' ≡ o + 1 → left' ≡ left - 1 →
+    IsPlace l count v' level' o' left' × IsCell cols c × (v' ≡ sv) × IsAtCell l c (place_cells l sv slevel so sleft) (place_cells l v' level' o' left')
+edge-returns l cols count slots sv slevel so sleft v level r o left place same from s cell slots_are c v' level' o' left' et ep ev el eo er =
+    let P : Cell × ℕ × ℕ × ℕ × ℕ → Type 0 = λ p. IsPlace l count p.1 p.2 p.3 p.4 × IsCell cols p.0 × (p.1 ≡ sv) × IsAtCell l p.0 (place_cells l sv slevel so sleft) (place_cells l p.1 p.2 p.3 p.4) in
     let here : P (record { table = r; place = o }, v, level, o + 1, left - 1) = (
       record { vertex = place.vertex; within = place.within; some = s.some },
       cell,
       from,
-      sym (ap (λ x. unwrap_or x []) same) ∙ (s.reads ∙ ap (λ k. (k, record { table = r; place = o }) ∷ place_cells l v level (o + 1) (left - 1)) t'),
+      record {
+        target = s.target;
+        slot_is = ap (λ xs. slice_get xs o) (sym slots_are) ∙ s.slot_is;
+        first = sym (ap (λ x. unwrap_or x []) same) ∙ s.reads;
+      },
     ) in
     let whole : record { table = r; place = o } ≡ c = λ j. record { table = sym et j; place = sym ep j } in
     subst P (λ j. (whole j, sym ev j, sym el j, sym eo j, sym er j)) here

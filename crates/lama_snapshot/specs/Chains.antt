@@ -40,6 +40,21 @@ pub record Layout : Type 0 where
 abbrev pub table_at : Layout → ℕ → Table
 table_at l r = slice_index_or (base_table l.base ∷ l.levels) r no_table
 
+-- the slot in the cell
+abbrev pub slot_at : Layout → Cell → Option Slot
+slot_at l c = slice_get (table_at l c.table).slots c.place
+
+-- the slot in the cell is an edge
+pub record IsEdgeCell (l : Layout) (c : Cell) : Type 0 where
+  pub target : ℕ
+  pub slot_is : slot_at l c ≡ Some (Edge target)
+
+-- the first of these edges is the one in the cell
+pub record IsAtCell (l : Layout) (c : Cell) (row rest : List (ℕ × Cell)) : Type 0 where
+  pub target : ℕ
+  pub slot_is : slot_at l c ≡ Some (Edge target)
+  pub first : row ≡ (target, c) ∷ rest
+
 -- the vertex in whose row the cell is
 abbrev pub owner : Layout → Cell → Option ℕ
 owner l c = slice_get (table_at l c.table).sources c.place

@@ -2,6 +2,8 @@
 use Rattle.std.specs.Prelude.{◌≡◌, ℕ, ◌<◌, ◌==◌, List, [], length, map, filter, flat_map, slice_index_or}
 use Rattle.lama_marks.specs.Places.{AreMarked, AreWritten}
 use Rattle.lama_model.specs.Change.{RowChange}
+use Rattle.lama_snapshot.specs.declared.level.Cell.{Cell}
+use Rattle.lama_snapshot.specs.Cells.{standing}
 use Rattle.lama_snapshot.specs.Snap.{Snap, edge_cell}
 
 -- the table and the place of the edge of index k in the row of v
@@ -11,6 +13,10 @@ killed_slot s v k = ((edge_cell s v k).table, (edge_cell s v k).place)
 -- the table of the edge of an index, and its place with the new weight
 abbrev pub set_slot : Snap → ℕ → ℕ × ℕ → ℕ × (ℕ × ℕ)
 set_slot s v p = ((edge_cell s v p.0).table, ((edge_cell s v p.0).place, p.1))
+
+-- the cells of the edges of the row of v
+abbrev pub cells_at : Snap → ℕ → List Cell
+cells_at s v = map (λ p. p.1) (standing s.columns (slice_index_or s.cells v []))
 
 -- the slots that the changes hide, row by row
 abbrev pub killed_slots : Snap → List RowChange → List (ℕ × ℕ)

@@ -5,7 +5,7 @@ use Rattle.lama_model.specs.Row.{AreTargetsBelow}
 use Rattle.lama_model.specs.Change.{Change}
 use Rattle.lama_model.specs.Opening.{no_change}
 use Rattle.lama_snapshot.specs.declared.level.Cell.{Cell}
-use Rattle.lama_snapshot.specs.BaseRows.{Numbered}
+use Rattle.lama_snapshot.specs.BaseRows.{Numbered, base_slots}
 use Rattle.lama_snapshot.specs.Cells.{Columns, standing}
 use Rattle.lama_snapshot.specs.Chains.{Table, Layout, IsRecord, rows_from, AreColumns}
 
@@ -48,6 +48,7 @@ pub record IsSnap (n edge_count : ℕ) (records : List VertexRec) (base : Number
   pub few : edge_count ≤ 33554432
   pub targets : AreTargetsBelow (length records) (rows_from (layout_of base levels) cols records)
   pub base_rows : length base.rows ≤ length records
+  pub base_slots : length (base_slots base.rows) ≤ 67108864
 
 -- its change of the number k, above the floor
 abbrev pub change_at : Snap → ℕ → Change

@@ -42,14 +42,6 @@ pub(crate) struct Cell {
     pub place: u32,
 }
 
-// A slot with an edge, and the place behind it.
-#[derive(Clone, Copy, Debug)]
-pub(crate) struct FoundEdge {
-    pub target: u32,
-    pub cell: Cell,
-    pub rest: SnapshotAt,
-}
-
 // A new vertex has no edges.
 pub(crate) const NO_RECORD: VertexRec = VertexRec {
     level: 0,
@@ -107,35 +99,42 @@ pub(crate) fn place_of(base: &Base, v: u32, level: u32, offset: u32, len: u32) -
     }
 }
 
-// The edge at a place in the table of that number.
-pub(crate) fn edge_at(edges: &EdgeTable, table: u32, at: SnapshotAt) -> FoundEdge
+// The cell of the edge at a place in the table of that number, and the place behind it.
+#[inline(always)]
+pub(crate) fn cell_at(table: u32, at: SnapshotAt) -> (Cell, SnapshotAt)
     requires left { 0 < at.left }
-    requires edge { HasEdge edges.now at.offset }
-    requires few { length edges.now ≤ 67108864 }
-    ensures target { slice_get edges.now at.offset ≡ Some (SeenEdge result.target) }
-    ensures table { result.cell.table ≡ table }
-    ensures place { result.cell.place ≡ at.offset }
-    ensures v { result.rest.v ≡ at.v }
-    ensures level { result.rest.level ≡ at.level }
-    ensures offset { result.rest.offset ≡ at.offset + 1 }
-    ensures rest { result.rest.left ≡ at.left - 1 }
+    requires few { at.offset < 67108864 }
+    ensures table { result.0.table ≡ table }
+    ensures place { result.0.place ≡ at.offset }
+    ensures v { result.1.v ≡ at.v }
+    ensures level { result.1.level ≡ at.level }
+    ensures offset { result.1.offset ≡ at.offset + 1 }
+    ensures rest { result.1.left ≡ at.left - 1 }
 {
-    let Slot::Edge { target } = edges.slot(at.offset) else {
-        unreachable!()
-    };
-    FoundEdge {
-        target,
-        cell: Cell {
+    (
+        Cell {
             table,
             place: at.offset,
         },
-        rest: SnapshotAt {
+        SnapshotAt {
             v: at.v,
             level: at.level,
             offset: at.offset + 1,
             left: at.left - 1,
         },
-    }
+    )
+}
+
+// The target of the edge in a slot.
+#[inline(always)]
+pub(crate) fn target_in(edges: &EdgeTable, place: u32) -> u32
+    requires { HasEdge edges.now place }
+    ensures { slice_get edges.now place ≡ Some (SeenEdge result) }
+{
+    let Slot::Edge { target } = edges.slot(place) else {
+        unreachable!()
+    };
+    target
 }
 
 // Writes the fragment of a row that changes, and gives its vertex the record of it.

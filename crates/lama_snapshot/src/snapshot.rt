@@ -1,4 +1,4 @@
-ghost use Rattle.std.specs.Prelude.{◌≡◌, ◌+◌, ◌-◌, ◌<◌, ◌≤◌, ◌↔◌, ◌++◌, [], ◌∷◌, ℕ, All, drop, IfOk, IsTrue, MatchOption, OnOk, map, length, slice_index_or, sum_by};
+ghost use Rattle.std.specs.Prelude.{◌≡◌, ◌+◌, ◌-◌, ◌<◌, ◌≤◌, ◌↔◌, ◌++◌, [], ◌∷◌, ℕ, List, All, IfOk, IsTrue, MatchOption, OnOk, Some, map, length, slice_index_or, sum_by};
 ghost use Rattle.std.specs.Arc.{arc_value};
 ghost use Rattle.std.specs.List.Sorted.{IsStrictlyIncreasing};
 ghost use Rattle.lama_model.specs.Row.{row_at, edges_in};
@@ -7,14 +7,15 @@ ghost use Rattle.lama_delta.specs.Seen.{seen_row, seen_rows};
 ghost use Rattle.lama_model.specs.Bounds.{added_edges, killed_edges, checkpoint_pages};
 ghost use Rattle.lama_model.specs.Fits.{Fits, HasIndexes};
 ghost use Rattle.lama_snapshot.specs.Cells.{standing, stands, visible};
-ghost use Rattle.lama_snapshot.specs.Chains.{IsPlace, place_cells};
+ghost use Rattle.lama_edges.specs.declared.records.Slot.TheVariants.{Edge as SeenEdge};
+ghost use Rattle.lama_snapshot.specs.Chains.{IsPlace, place_cells, slot_at, IsEdgeCell, IsAtCell};
 ghost use Rattle.lama_snapshot.specs.Snap.{floor_of, change_at, IsCell};
-ghost use Rattle.lama_snapshot.specs.Found.{killed_slot, set_slot, killed_slots, set_slots, AreHidden, AreSet};
+ghost use Rattle.lama_snapshot.specs.Found.{cells_at, killed_slot, set_slot, killed_slots, set_slots, AreHidden, AreSet};
 
 use crate::apply::{NewLevel, edges_at_most, edges_of, push_level, write_level};
 use crate::base::Base;
-use crate::found::{by_table, hide_all, weigh_all};
-use crate::level::{Cell, FoundEdge, Level, SnapshotAt, edge_at, level_at, place_of};
+use crate::found::{FoundSlots, by_table, find_killed, find_set, hide_all, weigh_all};
+use crate::level::{Cell, Level, SnapshotAt, cell_at, level_at, place_of, target_in};
 use lama_array::VArray;
 use lama_base::limits::{MAX_EDGES, MAX_NUMBER, MAX_VERTICES};
 use lama_delta::{Change, RowChange};
@@ -111,7 +112,7 @@ impl Snapshot {
 
     /// The graph after the change: its rows are these rows with the change done, and new vertices have empty rows.
     ///
-    /// Costs the changed rows, of a row where edges go or get another weight the edges up to the oldest of them, and
+    /// Costs the changed rows, of a row where edges go or get another weight one walk over all its edges, and
     /// a pointer for each page of the vertex table, for each level, and for each page of the marks or the weights of a
     /// table that is touched. A page of the vertex table is made for each page that has a changed row, and a page of
     /// marks or weights for each page that is touched.
@@ -133,8 +134,7 @@ impl Snapshot {
     {
         let wanted: &Change = &change;
         let number = wanted.number;
-        let mut hidden = self.hide_killed(alloc, wanted.rows(), number, pages)?;
-        let mut marked = self.weigh_set(alloc, wanted.rows(), pages)?;
+        let (mut hidden, mut marked) = self.columns_after(alloc, wanted.rows(), number, pages)?;
         let NewLevel {
             vertices,
             edges,
@@ -157,24 +157,39 @@ impl Snapshot {
         })
     }
 
-    // The marks of each table, with that number where an edge goes.
-    fn hide_killed<L: Ledger>(
+    // The marks of each table, with that number where an edge goes, and the weights, with the new ones where an edge
+    // gets another.
+    fn columns_after<L: Ledger>(
         &self,
         alloc: Global,
         rows: &[RowChange],
         number: u32,
         pages: &mut Steps<L>,
-    ) -> Result<Vec<Hidden>, AllocError>
-        requires rising { All (λ r. IsStrictlyIncreasing r.killed) (seen_rows rows.now) }
-        requires indexes { All (HasIndexes self.now.rows) (seen_rows rows.now) }
-        ensures marks { IfOk result (λ v. AreHidden (killed_slots self.now (seen_rows rows.now)) number self.now.columns.marks v.items) }
-        ensures made { pages.new ≤ pages.old + sum_by (λ (r : SeenRow). length r.killed) (seen_rows rows.now) }
+    ) -> Result<(Vec<Hidden>, Vec<Weights>), AllocError>
+        requires { All (HasIndexes self.now.rows) (seen_rows rows.now) }
+        ensures marks { IfOk result (λ v. AreHidden (killed_slots self.now (seen_rows rows.now)) number self.now.columns.marks v.0.items) }
+        ensures weights { IfOk result (λ v. AreSet (set_slots self.now (seen_rows rows.now)) self.now.columns.weights v.1.items) }
+        ensures made { pages.new ≤ pages.old + sum_by (λ (r : SeenRow). length r.killed) (seen_rows rows.now) + sum_by (λ (r : SeenRow). length r.set) (seen_rows rows.now) }
     {
-        let mut found = Vec::new(alloc);
-        for row in rows {
-            self.find_killed(row.source, &row.killed, &mut found)?;
-        }
-        let places = by_table(alloc, self.hidden.len(), &found)?;
+        let found = self.find_changed(alloc, rows)?;
+        let hidden = self.hide_killed(alloc, &found.killed, number, pages)?;
+        let weights = self.weigh_set(alloc, &found.set, pages)?;
+        Ok((hidden, weights))
+    }
+
+    // The marks of each table, with that number where an edge goes.
+    fn hide_killed<L: Ledger>(
+        &self,
+        alloc: Global,
+        found: &[(u32, u32)],
+        number: u32,
+        pages: &mut Steps<L>,
+    ) -> Result<Vec<Hidden>, AllocError>
+        requires { (rows : List SeenRow) × All (HasIndexes self.now.rows) rows × (found.now ≡ killed_slots self.now rows) }
+        ensures marks { IfOk result (λ v. AreHidden found.now number self.now.columns.marks v.items) }
+        ensures made { pages.new ≤ pages.old + length found.now }
+    {
+        let places = by_table(alloc, self.hidden.len(), found)?;
         let hidden = hide_all(alloc, &self.hidden, &places, number, pages)?;
         Ok(hidden)
     }
@@ -183,75 +198,68 @@ impl Snapshot {
     fn weigh_set<L: Ledger>(
         &self,
         alloc: Global,
-        rows: &[RowChange],
+        found: &[(u32, (u32, u64))],
         pages: &mut Steps<L>,
     ) -> Result<Vec<Weights>, AllocError>
-        requires rising { All (λ r. IsStrictlyIncreasing (map (λ p. p.0) r.set)) (seen_rows rows.now) }
-        requires indexes { All (HasIndexes self.now.rows) (seen_rows rows.now) }
-        ensures weights { IfOk result (λ v. AreSet (set_slots self.now (seen_rows rows.now)) self.now.columns.weights v.items) }
-        ensures made { pages.new ≤ pages.old + sum_by (λ (r : SeenRow). length r.set) (seen_rows rows.now) }
+        requires { (rows : List SeenRow) × All (HasIndexes self.now.rows) rows × (found.now ≡ set_slots self.now rows) }
+        ensures weights { IfOk result (λ v. AreSet found.now self.now.columns.weights v.items) }
+        ensures made { pages.new ≤ pages.old + length found.now }
     {
-        let mut found = Vec::new(alloc);
-        for row in rows {
-            self.find_set(row.source, &row.set, &mut found)?;
-        }
-        let places = by_table(alloc, self.weights.len(), &found)?;
+        let places = by_table(alloc, self.weights.len(), found)?;
         let weights = weigh_all(alloc, &self.weights, &places, pages)?;
         Ok(weights)
     }
 
-    // Finds the slots of the edges of the row of `v` with these indexes, which rise. Walks the row up to the last.
-    fn find_killed(
-        &self,
-        v: u32,
-        killed: &[u32],
-        found: &mut Vec<(u32, u32)>,
-    ) -> Result<(), AllocError>
-        requires rising { IsStrictlyIncreasing killed.now }
-        requires indexes { All (λ k. k < length (row_at self.now.rows v)) killed.now }
-        ensures { OnOk result (found.new.items ≡ found.old.items ++ map (killed_slot self.now v) killed.now) }
+    // The slots that these changes of rows hide, and those that get another weight.
+    fn find_changed(&self, alloc: Global, rows: &[RowChange]) -> Result<FoundSlots, AllocError>
+        requires { All (HasIndexes self.now.rows) (seen_rows rows.now) }
+        ensures killed { IfOk result (λ f. f.killed.items ≡ killed_slots self.now (seen_rows rows.now)) }
+        ensures set { IfOk result (λ f. f.set.items ≡ set_slots self.now (seen_rows rows.now)) }
     {
-        if killed.is_empty() {
-            return Ok(());
+        let mut found = FoundSlots {
+            killed: Vec::new(alloc),
+            set: Vec::new(alloc),
+        };
+        for row in rows {
+            self.find_row(alloc, row, &mut found)?;
         }
-        let mut at = self.row_place(v);
-        let mut passed = 0u64;
-        for &index in killed {
-            let Some(edge) = self.nth_edge(at, (index as u64 - passed) as u32) else {
-                unreachable!()
-            };
-            found.push((edge.cell.table, edge.cell.place))?;
-            at = edge.rest;
-            passed = index as u64 + 1;
-        }
-        Ok(())
+        Ok(found)
     }
 
-    // Finds the slots of the edges of the row of `v` with these indexes, which rise, and keeps their weights.
-    fn find_set(
+    // Finds the slots of one row. Walks it once, and not where it only gets new edges.
+    fn find_row(
         &self,
-        v: u32,
-        set: &[(u32, u64)],
-        found: &mut Vec<(u32, (u32, u64))>,
+        alloc: Global,
+        row: &RowChange,
+        found: &mut FoundSlots,
     ) -> Result<(), AllocError>
-        requires rising { IsStrictlyIncreasing (map (λ p. p.0) set.now) }
-        requires indexes { All (λ p. p.0 < length (row_at self.now.rows v)) set.now }
-        ensures { OnOk result (found.new.items ≡ found.old.items ++ map (set_slot self.now v) set.now) }
+        requires { HasIndexes self.now.rows (seen_row row.now) }
+        ensures killed { OnOk result (found.new.killed.items ≡ found.old.killed.items ++ map (killed_slot self.now (seen_row row.now).source) (seen_row row.now).killed) }
+        ensures set { OnOk result (found.new.set.items ≡ found.old.set.items ++ map (set_slot self.now (seen_row row.now).source) (seen_row row.now).set) }
     {
-        if set.is_empty() {
+        if row.killed.is_empty() && row.set.is_empty() {
             return Ok(());
         }
-        let mut at = self.row_place(v);
-        let mut passed = 0u64;
-        for &(index, weight) in set {
-            let Some(edge) = self.nth_edge(at, (index as u64 - passed) as u32) else {
-                unreachable!()
-            };
-            found.push((edge.cell.table, (edge.cell.place, weight)))?;
-            at = edge.rest;
-            passed = index as u64 + 1;
+        let cells = self.row_cells(alloc, row.source)?;
+        find_killed(&cells, &row.killed, &mut found.killed)?;
+        find_set(&cells, &row.set, &mut found.set)
+    }
+
+    // The cells of the edges of the row of `v`, newest first; a vertex that is not there has none.
+    fn row_cells(&self, alloc: Global, v: u32) -> Result<Vec<Cell>, AllocError>
+        ensures cells { IfOk result (λ cells. cells.items ≡ cells_at self.now v) }
+        ensures len { IfOk result (λ cells. length cells.items ≡ length (row_at self.now.rows v)) }
+    {
+        let mut cells = Vec::with_capacity(alloc, self.row_len(v) as usize)?;
+        if v >= self.vertices.len() {
+            return Ok(cells);
         }
-        Ok(())
+        let mut at = self.row_place(v);
+        while let Some((cell, rest)) = self.next_standing(at) {
+            cells.push(cell)?;
+            at = rest;
+        }
+        Ok(cells)
     }
 
     // Where the row of `v` begins.
@@ -265,23 +273,25 @@ impl Snapshot {
         place_of(&self.base, v, record.level, record.offset, record.len)
     }
 
-    // The next edge from a place on, hidden or not.
-    fn next_edge(&self, start: SnapshotAt) -> Option<FoundEdge>
+    // The cell of the next edge from a place on, hidden or not, and the place behind it. Inside a fragment no slot is read.
+    #[inline(always)]
+    fn next_cell(&self, start: SnapshotAt) -> Option<(Cell, SnapshotAt)>
         requires { IsPlace self.now.layout (length self.now.rows) start.v start.level start.offset start.left }
         ensures { MatchOption result (place_cells self.now.layout start.v start.level start.offset start.left ≡ []) (λ found.
-            IsPlace self.now.layout (length self.now.rows) found.rest.v found.rest.level found.rest.offset found.rest.left
-            × IsCell self.now.columns found.cell
-            × (found.rest.v ≡ start.v)
-            × (place_cells self.now.layout start.v start.level start.offset start.left ≡ (found.target, found.cell) ∷ place_cells self.now.layout found.rest.v found.rest.level found.rest.offset found.rest.left)) }
+            IsPlace self.now.layout (length self.now.rows) found.1.v found.1.level found.1.offset found.1.left
+            × IsCell self.now.columns found.0
+            × (found.1.v ≡ start.v)
+            × IsAtCell self.now.layout found.0 (place_cells self.now.layout start.v start.level start.offset start.left)
+            (place_cells self.now.layout found.1.v found.1.level found.1.offset found.1.left)) }
     {
         let base: &Base = &self.base;
         let floor = base.number();
         let mut at = start;
         while floor < at.level {
-            let level = level_at(&self.levels, floor, at.level);
             if at.left > 0 {
-                return Some(edge_at(&level.edges, at.level - floor, at));
+                return Some(cell_at(at.level - floor, at));
             }
+            let level = level_at(&self.levels, floor, at.level);
             match level.edges.slot(at.offset) {
                 Slot::Next { level, offset, len } => at = place_of(base, at.v, level, offset, len),
                 _ => return None,
@@ -290,10 +300,11 @@ impl Snapshot {
         if at.left == 0 {
             return None;
         }
-        Some(edge_at(base.edges(), 0, at))
+        Some(cell_at(0, at))
     }
 
     // Whether the edge in the cell is not hidden.
+    #[inline(always)]
     fn stands(&self, cell: Cell) -> bool
         requires { IsCell self.now.columns cell }
         ensures { (t : ℕ) → result ≡ stands self.now.columns (t, cell) }
@@ -301,29 +312,39 @@ impl Snapshot {
         self.hidden[cell.table as usize].hidden_at(cell.place) == 0
     }
 
-    // The edge that stands behind `n` others that stand, from a place on.
-    fn nth_edge(&self, start: SnapshotAt, n: u32) -> Option<FoundEdge>
+    // The cell of the next edge that stands, from a place on, and the place behind it.
+    #[inline(always)]
+    fn next_standing(&self, start: SnapshotAt) -> Option<(Cell, SnapshotAt)>
         requires { IsPlace self.now.layout (length self.now.rows) start.v start.level start.offset start.left }
-        ensures { MatchOption result (length (standing self.now.columns (place_cells self.now.layout start.v start.level start.offset start.left)) ≤ n) (λ found.
-            IsPlace self.now.layout (length self.now.rows) found.rest.v found.rest.level found.rest.offset found.rest.left
-            × IsCell self.now.columns found.cell
-            × (found.rest.v ≡ start.v)
-            × (drop n (standing self.now.columns (place_cells self.now.layout start.v start.level start.offset start.left))
-            ≡ (found.target, found.cell) ∷ standing self.now.columns (place_cells self.now.layout found.rest.v found.rest.level found.rest.offset found.rest.left))) }
+        ensures { MatchOption result (standing self.now.columns (place_cells self.now.layout start.v start.level start.offset start.left) ≡ []) (λ found.
+            IsPlace self.now.layout (length self.now.rows) found.1.v found.1.level found.1.offset found.1.left
+            × IsCell self.now.columns found.0
+            × (found.1.v ≡ start.v)
+            × IsAtCell self.now.layout found.0 (standing self.now.columns (place_cells self.now.layout start.v start.level start.offset start.left))
+            (standing self.now.columns (place_cells self.now.layout found.1.v found.1.level found.1.offset found.1.left))) }
     {
         let mut at = start;
-        let mut left = n;
-        while let Some(edge) = self.next_edge(at) {
-            at = edge.rest;
-            if !self.stands(edge.cell) {
-                continue;
+        while let Some((cell, rest)) = self.next_cell(at) {
+            if self.stands(cell) {
+                return Some((cell, rest));
             }
-            if left == 0 {
-                return Some(edge);
-            }
-            left -= 1;
+            at = rest;
         }
         None
+    }
+
+    // The target of the edge in the cell.
+    #[inline(always)]
+    fn target_at(&self, cell: Cell) -> u32
+        requires { IsEdgeCell self.now.layout cell }
+        ensures { slot_at self.now.layout cell ≡ Some (SeenEdge result) }
+    {
+        let base: &Base = &self.base;
+        if cell.table == 0 {
+            return target_in(base.edges(), cell.place);
+        }
+        let level: &Level = &self.levels[(cell.table - 1) as usize];
+        target_in(&level.edges, cell.place)
     }
 
     /// Whether the change goes on from this snapshot: its number is the next one, its indexes are places of these
@@ -452,9 +473,10 @@ impl Rows for Snapshot {
         self.row_place(v)
     }
 
+    #[inline(always)]
     fn next(&self, at: SnapshotAt) -> Option<(u32, u64, SnapshotAt)> {
-        let edge = self.nth_edge(at, 0)?;
-        let weights = &self.weights[edge.cell.table as usize];
-        Some((edge.target, weights.weight(edge.cell.place), edge.rest))
+        let (cell, rest) = self.next_standing(at)?;
+        let weights = &self.weights[cell.table as usize];
+        Some((self.target_at(cell), weights.weight(cell.place), rest))
     }
 }

@@ -1,5 +1,6 @@
 pub mod Bytes
 pub mod LineLemmas
+pub mod Feeds
 pub mod Expectations
 pub mod LineMeanings
 pub mod Reading

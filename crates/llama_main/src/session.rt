@@ -15,6 +15,7 @@ use lama_base::Sink;
 use lama_base::limits::{MAX_LINE_BYTES, MAX_LINES};
 use lama_book::Book;
 use lama_pages::Steps;
+use memchr::memchr;
 use std::alloc::{AllocError, Global};
 use std::sync::ledger::Ledger;
 
@@ -43,7 +44,7 @@ fn first_line(bytes: &[u8]) -> Option<(&[u8], &[u8])>
 fn line_end(bytes: &[u8]) -> Option<usize>
     ensures { MatchOption result (HasNoFeed bytes.now) (λ end. (end < length bytes.now) × (slice_index bytes.now end ≡ 10) × HasNoFeed (take end bytes.now)) }
 {
-    bytes.iter().position(|&byte| byte == b'\n')
+    memchr(b'\n', bytes)
 }
 
 impl Session {

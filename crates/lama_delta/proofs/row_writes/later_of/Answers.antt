@@ -13,7 +13,7 @@ loop-i-init c =
     let ws = c.args.writes.now in
     let none = drop-past (length ws - 0) ws (omega arith) in
     let empty : (v : ℕ) → get nat_cmp c.new.result v ≡ None = λ v. search rules in
-    record { fates = λ v. empty v ∙ sym (ap (λ xs. fate_of xs v) none); added = c.new-2.ensures.items ∙ sym (ap left_of none) }
+    record { fates = λ v. empty v ∙ sym (ap (λ xs. fate_of xs v) none); added = c.in_ok-with_capacity.ensures.items ∙ sym (ap left_of none) }
 
 pub loop-i-preserved : goal.loop-i-preserved
 loop-i-preserved c =

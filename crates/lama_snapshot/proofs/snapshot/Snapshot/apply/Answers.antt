@@ -21,11 +21,8 @@ use Rattle.lama_snapshot.proofs.Change.{stands_of, hidden_by, weighed_by, IsAppl
 use Rattle.lama_snapshot.proofs.snapshot.Snapshot.apply.Given as given
 use Rattle.lama_snapshot.proofs.snapshot.Snapshot.apply.Goals as goal
 
-pub hide_killed-requires-clause-indexes : goal.hide_killed-requires-clause-indexes
-hide_killed-requires-clause-indexes g c = subst (All (HasIndexes c.args.self.now.rows)) (sym (c.rows.ensures.rows ∙ ap (λ (x : Change). x.rows) c.deref-wanted.ensures)) c.requires.indexes
-
-pub weigh_set-requires-clause-indexes : goal.weigh_set-requires-clause-indexes
-weigh_set-requires-clause-indexes g c = subst (All (HasIndexes c.args.self.now.rows)) (sym (c.rows-2.ensures.rows ∙ ap (λ (x : Change). x.rows) c.deref-wanted.ensures)) c.requires.indexes
+pub columns_after-requires : goal.columns_after-requires
+columns_after-requires g c = subst (All (HasIndexes c.args.self.now.rows)) (sym (c.rows.ensures.rows ∙ ap (λ (x : Change). x.rows) c.deref-wanted.ensures)) c.requires.indexes
 
 pub write_level-requires-clause-grows : goal.write_level-requires-clause-grows
 write_level-requires-clause-grows g c =
@@ -65,17 +62,16 @@ columns-here g c =
     let w : Change = arc_value c.args.change in
     let s : Snap = shown c.self.inside in
     let rows = c.rows.ensures.rows ∙ ap (λ (x : Change). x.rows) c.deref-wanted.ensures in
-    let rows-2 = c.rows-2.ensures.rows ∙ ap (λ (x : Change). x.rows) c.deref-wanted.ensures in
     let n : c.wanted.inside.number ≡ w.number = ap (λ (x : Change). x.number) (c.wanted.view_is ∙ c.deref-wanted.ensures) in
     let P : Snap × List RowChange × ℕ → Type 0 = λ p. AreHidden (killed_slots p.0 p.1) p.2 p.0.columns.marks c.in_ok-hidden.hidden.items in
-    let Q : Snap × List RowChange → Type 0 = λ p. AreSet (set_slots p.0 p.1) p.0.columns.weights c.in_ok-marked.marked.items in
+    let Q : Snap × List RowChange → Type 0 = λ p. AreSet (set_slots p.0 p.1) p.0.columns.weights c.in_ok-hidden.marked.items in
     record {
       hidden = c.in_ok-hidden.hidden.items;
       marks = c.in_ok-push.ensures.items ∙ ap (λ x. c.in_ok-hidden.hidden.items ++ x ∷ []) (c.in_ok-standing.ensures.marks ∙ ap (λ k. replicate k 0) c.len.ensures);
       are_hidden = subst P (λ j. (sym c.self.view_is j, rows j, n j)) c.in_ok-hidden.ensures.marks;
-      weighed = c.in_ok-marked.marked.items;
-      weights_are = c.in_ok-push-2.ensures.items ∙ ap (λ x. c.in_ok-marked.marked.items ++ x ∷ []) refl;
-      are_set = subst Q (λ j. (sym c.self.view_is j, rows-2 j)) c.in_ok-marked.ensures.weights;
+      weighed = c.in_ok-hidden.marked.items;
+      weights_are = c.in_ok-push-2.ensures.items ∙ ap (λ x. c.in_ok-hidden.marked.items ++ x ∷ []) refl;
+      are_set = subst Q (λ j. (sym c.self.view_is j, rows j)) c.in_ok-hidden.ensures.weights;
     }
 
 applied-here : (g : given.Over) (c : goal.In_ok-try_clone g) →

@@ -1,46 +1,39 @@
-use Rattle.std.proofs.Common.{◌≡◌, ◌∙◌, ◌-◌, ◌<◌, ◌≤◌, List, length, ap, sym, subst, arith}
+use Rattle.std.proofs.Common.{◌∙◌, ◌-◌, ◌<◌, ◌≤◌, length, ap, sym, subst, refl, arith}
 use Rattle.std.specs.Prelude.{slice_get, unwrap_or, []}
-use Rattle.lama_snapshot.specs.Levels.{table_of, HasEdge}
-use Rattle.lama_edges.specs.declared.records.Slot.{Slot}
-use Rattle.lama_snapshot.specs.BaseRows.{Numbered, base_slots}
+use Rattle.std.proofs.lemmas.Option.{slice_get_within}
+use Rattle.lama_edges.specs.declared.records.Slot.TheVariants.{Edge}
+use Rattle.lama_snapshot.specs.BaseRows.{base_slots}
+use Rattle.lama_snapshot.specs.Levels.{table_of}
 use Rattle.lama_snapshot.specs.Chains.{Table, AreColumns}
 use Rattle.lama_snapshot.specs.Snap.{Snap}
-use Rattle.lama_snapshot.proofs.StepLemmas.{level_table, edge-step, base-step, base-end, has-edge}
-use Rattle.lama_snapshot.proofs.NextLemmas.{floor-is, table-is, table-ok, edge-returns, next-returns, tail-requires, end-returns, cell-above, cell-below}
-use Rattle.lama_snapshot.proofs.snapshot.Snapshot.next_edge.Goals as goal
+use Rattle.lama_snapshot.proofs.StepLemmas.{level_table, edge-step, base-step, base-end}
+use Rattle.lama_snapshot.proofs.NextLemmas.{floor-is, table-is, table-ok, slots-above, edge-returns, next-returns, tail-requires, end-returns, cell-above, cell-below}
+use Rattle.lama_snapshot.proofs.snapshot.Snapshot.next_cell.Goals as goal
 
-pub edge_at-requires-clause-edge : goal.edge_at-requires-clause-edge
-edge_at-requires-clause-edge c =
+pub cell_at-requires-clause-few : goal.cell_at-requires-clause-few
+cell_at-requires-clause-few c =
     let snap = c.args.self.now in let at = c.loop-at.at in let place = c.loop-at.invariant.place in
     let floor = floor-is c.self.inside snap c.deref-base.result.now c.number-floor.result c.self.view_is c.deref-base.ensures c.number-floor.ensures.is in
-    let table = table-is c.self.inside snap c.deref.result.now c.number-floor.result at.level (table_of c.level_at-level.result.now) c.self.view_is c.deref.ensures.value floor c.level_at-level.ensures in
     let t = c.loop-at-test.true in
     let above : snap.layout.floor < at.level = omega (arith, floor, t) in
-    subst (λ (x : Table). HasEdge x.slots at.offset) (sym table) (has-edge snap.layout (level_table snap.layout at.level).slots at.v at.level (at.level - snap.layout.floor) at.offset at.left (edge-step snap.layout at.v at.level at.offset at.left above place.within c.if-at-gt0.true place.some))
-
-pub edge_at-requires-clause-few : goal.edge_at-requires-clause-few
-edge_at-requires-clause-few c =
-    let snap = c.args.self.now in let at = c.loop-at.at in let place = c.loop-at.invariant.place in
-    let floor = floor-is c.self.inside snap c.deref-base.result.now c.number-floor.result c.self.view_is c.deref-base.ensures c.number-floor.ensures.is in
-    let table = table-is c.self.inside snap c.deref.result.now c.number-floor.result at.level (table_of c.level_at-level.result.now) c.self.view_is c.deref.ensures.value floor c.level_at-level.ensures in
-    let t = c.loop-at-test.true in
-    let above : snap.layout.floor < at.level = omega (arith, floor, t) in
-    subst (λ (x : Table). length x.slots ≤ 67108864) (sym table) (table-ok _ snap.layout at.level (ap (λ (s : Snap). s.layout.levels) c.self.view_is) c.self.invariant.tables above place.within).few
+    let step = edge-step snap.layout at.v at.level at.offset at.left above place.within c.if-at-gt0.true place.some in
+    let within = slice_get_within (level_table snap.layout at.level).slots at.offset (Edge step.target) step.slot_is in
+    let few = (table-ok _ snap.layout at.level (ap (λ (s : Snap). s.layout.levels) c.self.view_is) c.self.invariant.tables above place.within).few in
+    omega (arith, within, few)
 
 pub returns-then-at-gt0 : goal.returns-then-at-gt0
 returns-then-at-gt0 c =
-    let e = c.edge_at.ensures in let r = c.edge_at.result in
+    let e = c.cell_at.ensures in let r = c.cell_at.result in
     let snap = c.args.self.now in let at = c.loop-at.at in let place = c.loop-at.invariant.place in
     let floor = floor-is c.self.inside snap c.deref-base.result.now c.number-floor.result c.self.view_is c.deref-base.ensures c.number-floor.ensures.is in
-    let table = table-is c.self.inside snap c.deref.result.now c.number-floor.result at.level (table_of c.level_at-level.result.now) c.self.view_is c.deref.ensures.value floor c.level_at-level.ensures in
     let t = c.loop-at-test.true in
     let above : snap.layout.floor < at.level = omega (arith, floor, t) in
     let cols : AreColumns snap.layout snap.columns = subst (λ (s : Snap). AreColumns s.layout s.columns) c.self.view_is c.self.invariant.columns in
     let ok = table-ok _ snap.layout at.level (ap (λ (s : Snap). s.layout.levels) c.self.view_is) c.self.invariant.tables above place.within in
     let step = edge-step snap.layout at.v at.level at.offset at.left above place.within c.if-at-gt0.true place.some in
     edge-returns snap.layout snap.columns (length snap.rows) (level_table snap.layout at.level).slots c.args.start.v c.args.start.level c.args.start.offset c.args.start.left at.v at.level (at.level - snap.layout.floor) at.offset at.left place c.loop-at.invariant.same c.loop-at.invariant.from step
-    (cell-above snap.layout snap.columns at.level at.offset step.target cols ok above place.within step.slot_is)
-    r.target r.cell r.rest.v r.rest.level r.rest.offset r.rest.left (ap (λ (x : Table). slice_get x.slots at.offset) (sym table) ∙ e.target) (e.table ∙ omega (arith, floor)) e.place e.v e.level e.offset e.rest
+    (cell-above snap.layout snap.columns at.level at.offset step.target cols ok above place.within step.slot_is) (slots-above snap.layout at.level above)
+    r.0 r.1.v r.1.level r.1.offset r.1.left (e.table ∙ omega (arith, floor)) e.place e.v e.level e.offset e.rest
 
 pub slot-requires : goal.slot-requires
 slot-requires c =
@@ -93,27 +86,28 @@ returns-then-at-eq0 c =
     let t = c.loop-at-test.false in
     sym (ap (λ x. unwrap_or x []) c.loop-at.invariant.same) ∙ base-end snap.layout at.v at.level at.offset at.left (omega (arith, floor, t)) c.if-at-eq0.true
 
-pub edge_at-requires-2-clause-edge : goal.edge_at-requires-2-clause-edge
-edge_at-requires-2-clause-edge c =
+pub cell_at-requires-2-clause-few : goal.cell_at-requires-2-clause-few
+cell_at-requires-2-clause-few c =
     let snap = c.args.self.now in let at = c.loop-at.at in let place = c.loop-at.invariant.place in
     let floor = floor-is c.self.inside snap c.deref-base.result.now c.number-floor.result c.self.view_is c.deref-base.ensures c.number-floor.ensures.is in
     let t = c.loop-at-test.false in
     let low : at.level ≤ snap.layout.floor = omega (arith, floor, t) in
     let some = c.if-at-eq0.false in
-    let slots : c.edges.result.now ≡ base_slots snap.layout.base = c.edges.ensures.slots ∙ ap base_slots (ap (λ (x : Numbered). x.rows) c.deref-base.ensures ∙ ap (λ (s : Snap). s.layout.base) c.self.view_is) in
-    subst (λ (xs : List Slot). HasEdge xs at.offset) (sym slots) (has-edge snap.layout (base_slots snap.layout.base) at.v at.level 0 at.offset at.left (base-step snap.layout at.v at.level at.offset at.left low (omega (arith, some)) place.some))
+    let step = base-step snap.layout at.v at.level at.offset at.left low (omega (arith, some)) place.some in
+    let within = slice_get_within (base_slots snap.layout.base) at.offset (Edge step.target) step.slot_is in
+    let few = subst (λ (s : Snap). length (base_slots s.layout.base) ≤ 67108864) c.self.view_is c.self.invariant.base_slots in
+    omega (arith, within, few)
 
 pub returns : goal.returns
 returns c =
-    let e = c.edge_at-2.ensures in let r = c.edge_at-2.result in
+    let e = c.cell_at-2.ensures in let r = c.cell_at-2.result in
     let snap = c.args.self.now in let at = c.loop-at.at in let place = c.loop-at.invariant.place in
     let floor = floor-is c.self.inside snap c.deref-base.result.now c.number-floor.result c.self.view_is c.deref-base.ensures c.number-floor.ensures.is in
     let t = c.loop-at-test.false in
     let low : at.level ≤ snap.layout.floor = omega (arith, floor, t) in
     let some = c.if-at-eq0.false in
-    let slots : c.edges.result.now ≡ base_slots snap.layout.base = c.edges.ensures.slots ∙ ap base_slots (ap (λ (x : Numbered). x.rows) c.deref-base.ensures ∙ ap (λ (s : Snap). s.layout.base) c.self.view_is) in
     let cols : AreColumns snap.layout snap.columns = subst (λ (s : Snap). AreColumns s.layout s.columns) c.self.view_is c.self.invariant.columns in
     let step = base-step snap.layout at.v at.level at.offset at.left low (omega (arith, some)) place.some in
     edge-returns snap.layout snap.columns (length snap.rows) (base_slots snap.layout.base) c.args.start.v c.args.start.level c.args.start.offset c.args.start.left at.v at.level 0 at.offset at.left place c.loop-at.invariant.same c.loop-at.invariant.from step
-    (cell-below snap.layout snap.columns at.offset step.target cols step.slot_is)
-    r.target r.cell r.rest.v r.rest.level r.rest.offset r.rest.left (ap (λ (xs : List Slot). slice_get xs at.offset) (sym slots) ∙ e.target) e.table e.place e.v e.level e.offset e.rest
+    (cell-below snap.layout snap.columns at.offset step.target cols step.slot_is) refl
+    r.0 r.1.v r.1.level r.1.offset r.1.left e.table e.place e.v e.level e.offset e.rest

@@ -1,6 +1,6 @@
 use Rattle.std.proofs.Common.{◌≡◌, length}
 use Rattle.lama_snapshot.specs.Chains.{IsPlace, place_row}
-use Rattle.lama_snapshot.proofs.snapshot.Snapshot.next_edge.Given as goal
+use Rattle.lama_snapshot.proofs.snapshot.Snapshot.next_cell.Given as goal
 
 abbrev pub invariant-loop-at : goal.invariant-loop-at
 invariant-loop-at l = record {
