@@ -11,7 +11,7 @@ ghost use Rattle.lama_delta.specs.Sieve.{IsSieve};
 
 use crate::RowChange;
 use crate::edge_writes::{Act, EdgeWrite};
-use crate::sieve::{fate_to, sieve_of};
+use crate::sieve::{fate_to, mark};
 use lama_model::Rows;
 use std::alloc::{AllocError, Global};
 use std::collections::BTreeMap;
@@ -29,6 +29,8 @@ pub(crate) enum Fate {
 #[derive(Drop)]
 struct Later {
     fates: BTreeMap<u32, Fate>,
+    // The sieve of the fates.
+    marks: Vec<bool>,
     added: Vec<(u32, u64)>,
 }
 
@@ -48,8 +50,12 @@ pub(crate) fn row_change<R: Rows>(
 ) -> Result<RowChange, AllocError>
     ensures { IfOk result (λ row. seen_row row ≡ change_of source writes.now (row_at (R.rows rows.now) source)) }
 {
-    let Later { fates, added } = later_of(alloc, writes)?;
-    let OldEdges { killed, set } = old_edges(alloc, rows, source, writes, &fates)?;
+    let Later {
+        fates,
+        marks,
+        added,
+    } = later_of(alloc, writes)?;
+    let OldEdges { killed, set } = old_edges(alloc, rows, source, &marks, &fates)?;
     Ok(RowChange {
         source,
         added,
@@ -60,10 +66,12 @@ pub(crate) fn row_change<R: Rows>(
 
 fn later_of(alloc: Global, writes: &[EdgeWrite]) -> Result<Later, AllocError>
     ensures fates { IfOk result (λ l. (v : ℕ) → get nat_cmp l.fates v ≡ fate_of writes.now v) }
+    ensures sieve { IfOk result (λ l. IsSieve l.marks.items (get nat_cmp l.fates)) }
     ensures added { IfOk result (λ l. l.added.items ≡ left_of writes.now) }
 {
     let mut later = Later {
         fates: BTreeMap::new(alloc),
+        marks: Vec::new(alloc),
         added: Vec::with_capacity(alloc, additions_in(writes))?,
     };
     for i in 0..writes.len() {
@@ -83,11 +91,13 @@ fn additions_in(writes: &[EdgeWrite]) -> usize {
 impl Later {
     // Puts a write before these.
     fn put_before(&mut self, write: EdgeWrite) -> Result<(), AllocError>
+        requires { IsSieve self.old.marks.items (get nat_cmp self.old.fates) }
+        ensures sieve { OnOk result (IsSieve self.new.marks.items (get nat_cmp self.new.fates)) }
         ensures fates { OnOk result ((v : ℕ) → get nat_cmp self.new.fates v ≡
             (if write.target == v then fate_before write.act (get nat_cmp self.old.fates v) else get nat_cmp self.old.fates v)) }
         ensures added { OnOk result (self.new.added.items ≡ self.old.added.items ++ new_pair write.act write.target (get nat_cmp self.old.fates write.target)) }
     {
-        let fate = self.fates.get(&write.target).copied();
+        let fate = fate_to(&self.marks, &self.fates, write.target);
         match write.act {
             Act::Add(weight) => self.put_edge(write.target, weight, fate),
             Act::Remove => self.put_fate(write.target, Fate::Gone),
@@ -97,6 +107,7 @@ impl Later {
 
     // Puts an edge before these writes, of which that is the fate.
     fn put_edge(&mut self, target: u32, weight: u64, fate: Option<Fate>) -> Result<(), AllocError>
+        ensures marks { self.new.marks ≡ self.old.marks }
         ensures fates { self.new.fates ≡ self.old.fates }
         ensures added { OnOk result (self.new.added.items ≡ self.old.added.items ++ new_pair (SeenAdd weight) target fate) }
     {
@@ -108,6 +119,7 @@ impl Later {
     }
 
     fn push_edge(&mut self, target: u32, weight: u64) -> Result<(), AllocError>
+        ensures marks { self.new.marks ≡ self.old.marks }
         ensures fates { self.new.fates ≡ self.old.fates }
         ensures added { OnOk result (self.new.added.items ≡ self.old.added.items ++ (target, weight) ∷ []) }
     {
@@ -116,16 +128,21 @@ impl Later {
     }
 
     fn put_fate(&mut self, target: u32, fate: Fate) -> Result<(), AllocError>
+        requires { IsSieve self.old.marks.items (get nat_cmp self.old.fates) }
+        ensures sieve { OnOk result (IsSieve self.new.marks.items (get nat_cmp self.new.fates)) }
         ensures fates { OnOk result ((v : ℕ) → get nat_cmp self.new.fates v ≡ (if target == v then Some fate else get nat_cmp self.old.fates v)) }
         ensures added { self.new.added ≡ self.old.added }
     {
+        mark(&mut self.marks, target)?;
         self.fates.insert(target, fate)?;
         Ok(())
     }
 
     // A weight counts where no later write has decided.
     fn put_weight(&mut self, target: u32, weight: u64, fate: Option<Fate>) -> Result<(), AllocError>
-        requires { fate ≡ get nat_cmp self.old.fates target }
+        requires fate { fate ≡ get nat_cmp self.old.fates target }
+        requires sieve { IsSieve self.old.marks.items (get nat_cmp self.old.fates) }
+        ensures sieve { OnOk result (IsSieve self.new.marks.items (get nat_cmp self.new.fates)) }
         ensures fates { OnOk result ((v : ℕ) → get nat_cmp self.new.fates v ≡
             (if target == v then fate_before (SeenWeigh weight) (get nat_cmp self.old.fates v) else get nat_cmp self.old.fates v)) }
         ensures added { self.new.added ≡ self.old.added }
@@ -142,10 +159,10 @@ fn old_edges<R: Rows>(
     alloc: Global,
     rows: &R,
     source: u32,
-    writes: &[EdgeWrite],
+    marks: &[bool],
     fates: &BTreeMap<u32, Fate>,
 ) -> Result<OldEdges, AllocError>
-    requires { (v : ℕ) → get nat_cmp fates.now v ≡ fate_of writes.now v }
+    requires { IsSieve marks.now (get nat_cmp fates.now) }
     ensures killed { IfOk result (λ o. o.killed.items ≡ gone_from 0 (get nat_cmp fates.now) (row_at (R.rows rows.now) source)) }
     ensures set { IfOk result (λ o. o.set.items ≡ set_from 0 (get nat_cmp fates.now) (row_at (R.rows rows.now) source)) }
 {
@@ -159,8 +176,7 @@ fn old_edges<R: Rows>(
     if source >= rows.count() {
         return Ok(old);
     }
-    let marks = sieve_of(alloc, writes)?;
-    old.walk(rows, source, &marks, fates)?;
+    old.walk(rows, source, marks, fates)?;
     Ok(old)
 }
 

@@ -1,34 +1,48 @@
 // A quick look for the targets that writes name.
-ghost use Rattle.std.specs.Prelude.{◌≡◌, ◌%◌, ℕ, true, false, IfOk, length, slice_index_or};
+ghost use Rattle.std.specs.Prelude.{◌≡◌, ◌%◌, ◌≤◌, ℕ, true, false, OnOk, length, slice_index_or};
 ghost use Rattle.std.specs.Ordering.{nat_cmp};
 ghost use Rattle.std.specs.BTreeMap.{get};
-ghost use Rattle.lama_delta.specs.RowWrites.{fate_of};
 ghost use Rattle.lama_delta.specs.Sieve.{IsSieve};
 
-use crate::edge_writes::EdgeWrite;
 use crate::row_writes::Fate;
-use std::alloc::{AllocError, Global};
+use std::alloc::AllocError;
 use std::collections::BTreeMap;
 
-// Marks the remainders of the targets that the writes name. A target with another remainder is named by none, and that
-// is known without a search.
-pub(crate) fn sieve_of(alloc: Global, writes: &[EdgeWrite]) -> Result<Vec<bool>, AllocError>
-    ensures { IfOk result (λ marks. IsSieve marks.items (fate_of writes.now)) }
+// How many marks there are, once there are any.
+const MARKS: usize = 4096;
+
+// Marks the remainder of a target. A target whose remainder is not marked has no fate, and that is known without a
+// search.
+pub(crate) fn mark(marks: &mut Vec<bool>, target: u32) -> Result<(), AllocError>
+    ensures marked { OnOk result (slice_index_or marks.new.items (target % 4096) false ≡ true) }
+    ensures kept { OnOk result ((i : ℕ) → slice_index_or marks.old.items i false ≡ true → slice_index_or marks.new.items i false ≡ true) }
 {
-    let mut marks = vec![in alloc; false; 4096]?;
-    for write in writes {
-        mark(&mut marks, write.target);
-    }
-    Ok(marks)
+    widen(marks)?;
+    marks[(target % 4096) as usize] = true;
+    Ok(())
 }
 
-fn mark(marks: &mut Vec<bool>, target: u32)
-    requires { length marks.old.items ≡ 4096 }
-    ensures len { length marks.new.items ≡ 4096 }
-    ensures marked { slice_index_or marks.new.items (target % 4096) false ≡ true }
-    ensures kept { (i : ℕ) → slice_index_or marks.old.items i false ≡ true → slice_index_or marks.new.items i false ≡ true }
+// Makes room for all marks.
+fn widen(marks: &mut Vec<bool>) -> Result<(), AllocError>
+    ensures len { OnOk result (4096 ≤ length marks.new.items) }
+    ensures kept { OnOk result ((i : ℕ) → slice_index_or marks.old.items i false ≡ true → slice_index_or marks.new.items i false ≡ true) }
 {
-    marks[(target % 4096) as usize] = true;
+    if marks.len() >= MARKS {
+        return Ok(());
+    }
+    marks.resize(MARKS, false)?;
+    Ok(())
+}
+
+#[inline(always)]
+fn is_marked(marks: &[bool], target: u32) -> bool
+    ensures { result ≡ slice_index_or marks.now (target % 4096) false }
+{
+    let i = (target % 4096) as usize;
+    if i < marks.len() {
+        return marks[i];
+    }
+    false
 }
 
 // What becomes of the edges to a target.
@@ -37,7 +51,7 @@ pub(crate) fn fate_to(marks: &[bool], fates: &BTreeMap<u32, Fate>, target: u32) 
     requires { IsSieve marks.now (get nat_cmp fates.now) }
     ensures { result ≡ get nat_cmp fates.now target }
 {
-    if !marks[(target % 4096) as usize] {
+    if !is_marked(marks, target) {
         return None;
     }
     fates.get(&target).copied()

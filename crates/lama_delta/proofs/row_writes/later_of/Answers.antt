@@ -6,6 +6,7 @@ use Rattle.lama_delta.specs.declared.row_writes.Fate.{Fate}
 use Rattle.lama_delta.specs.RowWrites.{fate_before, fate_of, new_pair, left_of}
 use Rattle.lama_delta.proofs.Groups.{no_write}
 use Rattle.lama_delta.proofs.RowLemmas.{drop-past}
+use Rattle.lama_delta.proofs.Sieves.{no-fates}
 use Rattle.lama_delta.proofs.row_writes.later_of.Goals as goal
 
 pub loop-i-init : goal.loop-i-init
@@ -13,7 +14,7 @@ loop-i-init c =
     let ws = c.args.writes.now in
     let none = drop-past (length ws - 0) ws (omega arith) in
     let empty : (v : ℕ) → get nat_cmp c.new.result v ≡ None = λ v. search rules in
-    record { fates = λ v. empty v ∙ sym (ap (λ xs. fate_of xs v) none); added = c.in_ok-with_capacity.ensures.items ∙ sym (ap left_of none) }
+    record { fates = λ v. empty v ∙ sym (ap (λ xs. fate_of xs v) none); sieve = no-fates c.new-2.result.items (get nat_cmp c.new.result) empty; added = c.in_ok-with_capacity.ensures.items ∙ sym (ap left_of none) }
 
 pub loop-i-preserved : goal.loop-i-preserved
 loop-i-preserved c =
@@ -28,6 +29,7 @@ loop-i-preserved c =
     let inv = c.loop-i.invariant in
     record {
       fates = λ v. c.in_ok-put_before.ensures.fates v ∙ (ap (λ (f : Option Fate). cond (eqb item.target v) (fate_before item.act f) f) (inv.fates v) ∙ sym (ap (λ xs. fate_of xs v) step));
+      sieve = c.in_ok-put_before.ensures.sieve;
       added = c.in_ok-put_before.ensures.added
           ∙ (ap (λ xs. xs ++ new_pair item.act item.target (get nat_cmp c.loop-i.later.fates item.target)) inv.added
           ∙ (ap (λ (f : Option Fate). left_of rest ++ new_pair item.act item.target f) (inv.fates item.target) ∙ sym (ap left_of step)));
@@ -38,4 +40,4 @@ returns c =
     let ws = c.args.writes.now in
     let t = c.loop-i-test.false in
     let all : drop (length ws - c.loop-i.i) ws ≡ ws = ap (λ k. drop k ws) (let e : length ws - c.loop-i.i ≡ 0 = omega (arith, t) in e) in
-    record { fates = λ v. c.loop-i.invariant.fates v ∙ ap (λ xs. fate_of xs v) all; added = c.loop-i.invariant.added ∙ ap left_of all }
+    record { fates = λ v. c.loop-i.invariant.fates v ∙ ap (λ xs. fate_of xs v) all; sieve = c.loop-i.invariant.sieve; added = c.loop-i.invariant.added ∙ ap left_of all }
