@@ -65,6 +65,14 @@ take_past (x ∷ xs) ys n =
 pub length-kept : {A : Type 0} (len : ℕ) (ps : List (List A)) → IsPaged len ps → length (take len (joined ps)) ≡ len
 length-kept len ps h = omega (arith, length-take len (joined ps), length-joined 256 ps h.whole, h.covered)
 
+-- the record at i of a list in pages, from its page
+pub read-in : {A : Type 0} (ps : List (List A)) (len i : ℕ) → IsPaged len ps → i < len → (page : List A) (r : A) → page ≡ get_or ps (i / 256) page → r ≡ get_or page (i % 256) r → r ≡ get_or (take len (joined ps)) i r
+read-in ps len i paged within page r at read =
+    let place : 256 * (i / 256) + i % 256 ≡ i = omega arith in
+    let whole : get_or (joined ps) (256 * (i / 256) + i % 256) r ≡ get_or (get_or ps (i / 256) page) (i % 256) r =
+    get_or-joined 256 ps (i / 256) (i % 256) page r paged.whole (omega (arith, paged.covered)) (omega arith) in
+    read ∙ ap (λ p. get_or p (i % 256) r) at ∙ sym whole ∙ ap (λ k. get_or (joined ps) k r) place ∙ sym (get_or-take len (joined ps) i r within)
+
 -- The places of an array whose pages stand behind the entries of a table, f of each.
 
 module _ {H A : Type 0} (f : H → List A) (table : List H) (len i : ℕ) (paged : IsPaged len (map f table)) (within : i < len) where
@@ -79,10 +87,7 @@ module _ {H A : Type 0} (f : H → List A) (table : List H) (len i : ℕ) (paged
 
   pub read-at : (h : H) (page : List A) (r : A) → h ≡ get_or table (i / 256) h → page ≡ f h → r ≡ get_or page (i % 256) r → r ≡ get_or (take len (joined (map f table))) i r
   read-at h page r at is read =
-      let same : get_or (map f table) (i / 256) page ≡ page = get_or-map f table (i / 256) h page in_table ∙ ap f (sym at) ∙ sym is in
-      let whole : get_or (joined (map f table)) (256 * (i / 256) + i % 256) r ≡ get_or (get_or (map f table) (i / 256) page) (i % 256) r =
-      get_or-joined 256 (map f table) (i / 256) (i % 256) page r paged.whole (omega (arith, in_table, length-map table f)) in_page in
-      read ∙ ap (λ p. get_or p (i % 256) r) (sym same) ∙ sym whole ∙ ap (λ k. get_or (joined (map f table)) k r) place ∙ sym (get_or-take len (joined (map f table)) i r within)
+      read-in (map f table) len i paged within page r (is ∙ ap f at ∙ sym (get_or-map f table (i / 256) h page in_table)) read
 
   page-at : (h : H) → h ≡ get_or table (i / 256) h → get_or (map f table) (i / 256) (f h) ≡ f h
   page-at h at = get_or-map f table (i / 256) h (f h) in_table ∙ ap f (sym at)

@@ -4,10 +4,10 @@ ghost use Rattle.lama_array.specs.Draft.{owns};
 use crate::VArray;
 use crate::grow::grow;
 use crate::held::Held;
+use crate::table::Table;
 use lama_pages::{PAGE_RECORDS, Page, Steps};
 use std::alloc::{AllocError, Global};
 use std::marker::Model;
-use std::sync::Arc;
 use std::sync::ledger::Ledger;
 
 /// A list under change. It shares pages with the version that it began with, and has pages of its own.
@@ -153,7 +153,7 @@ impl<T: Copy> Edit<T> {
         for page in held {
             table.push(page.into_shared(alloc)?)?;
         }
-        let table = Arc::new(alloc, table)?;
+        let table = Table::new(alloc, table)?;
         Ok(VArray { table, len })
     }
 }

@@ -5,6 +5,7 @@ mod builder;
 mod edit;
 mod grow;
 mod held;
+mod table;
 mod version;
 
 pub use builder::Builder;

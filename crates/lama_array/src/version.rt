@@ -4,7 +4,8 @@ use crate::Edit;
 use crate::builder::Builder;
 use crate::grow::{pages_for, push_filled};
 use crate::held::Held;
-use lama_pages::{PAGE_RECORDS, Page, Steps};
+use crate::table::Table;
+use lama_pages::{PAGE_RECORDS, Steps};
 use std::alloc::{AllocError, Global};
 use std::marker::Model;
 use std::sync::Arc;
@@ -15,20 +16,19 @@ use std::sync::ledger::Ledger;
 /// Its indirection table and its pages are shared with other versions and with edits.
 #[derive(Drop)]
 pub struct VArray<T: Copy> {
-    pub(crate) table: Arc<Vec<Arc<Page<T>, Global>>, Global>,
+    pub(crate) table: Table<T>,
     pub(crate) len: u32,
 }
 
 impl<T: Copy> Model for VArray<T> {
-    ghost use Rattle.std.specs.Prelude.{List, map, take};
-    ghost use Rattle.std.specs.Arc.{arc_value};
+    ghost use Rattle.std.specs.Prelude.{List, take};
     ghost use Rattle.lama_array.specs.Paged.{IsPaged, joined};
 
     ghost Value = { List T };
 
-    ghost view = { λ version. take version.len (joined (map arc_value (arc_value version.table).items)) };
+    ghost view = { λ version. take version.len (joined version.table) };
 
-    ghost invariant = { λ version. IsPaged version.len (map arc_value (arc_value version.table).items) };
+    ghost invariant = { λ version. IsPaged version.len version.table };
 }
 
 impl<T: Copy> VArray<T> {
@@ -78,7 +78,7 @@ impl<T: Copy> VArray<T> {
         ensures { result ≡ slice_index_or self.now i result }
     {
         let i = i as usize;
-        self.table[i / PAGE_RECORDS].get(i % PAGE_RECORDS)
+        self.table.page(i / PAGE_RECORDS).get(i % PAGE_RECORDS)
     }
 
     /// The same version once more. It makes no page and copies no table.
@@ -86,7 +86,7 @@ impl<T: Copy> VArray<T> {
         ensures { IfOk result (λ version. version ≡ self.now) }
     {
         Ok(VArray {
-            table: Arc::try_clone(&self.table)?,
+            table: self.table.share()?,
             len: self.len,
         })
     }
@@ -97,7 +97,7 @@ impl<T: Copy> VArray<T> {
         ensures items { IfOk result (λ edit. edit.items ≡ self.now) }
         ensures owned { IfOk result (λ edit. edit.owned ≡ replicate ((length self.now + 255) / 256) false) }
     {
-        let table: &Vec<Arc<Page<T>, Global>> = &self.table;
+        let table = self.table.entries();
         let mut held = Vec::with_capacity(*table.allocator(), table.len())?;
         for page in table {
             held.push(Held::Shared(Arc::try_clone(page)?))?;

@@ -1,5 +1,6 @@
 pub mod OpeningLemmas
 pub mod Answering
 pub mod Keeping
+pub mod Kept
 pub mod Checkpointing
 pub mod Calls

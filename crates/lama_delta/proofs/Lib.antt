@@ -1,6 +1,7 @@
 pub mod Rising
 pub mod Named
 pub mod Groups
+pub mod Ordered
 pub mod RowLemmas
 pub mod Effects
 pub mod Valid

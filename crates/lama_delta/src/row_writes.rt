@@ -181,7 +181,8 @@ fn old_edges<R: Rows>(
 }
 
 impl OldEdges {
-    // Walks the row of `source`, the newest edge first.
+    // Walks the row of `source`, the newest edge first. It stands apart, so that its loop has the registers for itself.
+    #[inline(never)]
     fn walk<R: Rows>(
         &mut self,
         rows: &R,

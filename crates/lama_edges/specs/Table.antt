@@ -1,4 +1,4 @@
-use Rattle.std.specs.Prelude.{List, [], ◌∷◌, ◌++◌, map, flat_map}
+use Rattle.std.specs.Prelude.{◌≡◌, ℕ, List, [], ◌∷◌, ◌++◌, Some, map, flat_map, slice_get}
 use Rattle.lama_edges.specs.declared.records.Slot.{Slot}
 use Rattle.lama_edges.specs.declared.records.Slot.TheVariants.{Edge, Next, End}
 use Rattle.lama_edges.specs.declared.records.Fragment.{Fragment}
@@ -20,3 +20,8 @@ fragment_slots fragment = map (λ target. Edge target) fragment.targets.items ++
 -- the slots of a table: those of its fragments, one fragment after another
 abbrev pub table_slots : List Fragment → List Slot
 table_slots fragments = flat_map fragment_slots fragments
+
+-- an edge stands at the place
+pub record HasEdge (slots : List Slot) (o : ℕ) : Type 0 where
+  pub target : ℕ
+  pub slot_is : slice_get slots o ≡ Some (Edge target)

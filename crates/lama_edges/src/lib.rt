@@ -6,8 +6,11 @@
 //! leads to the older edges of the same vertex.
 #![tactic(auto)]
 
+mod builder;
 mod records;
 mod table;
+mod tails;
 
+pub use builder::TableBuilder;
 pub use records::{Fragment, Slot, VertexRec};
 pub use table::EdgeTable;

@@ -1,8 +1,11 @@
 ghost use Rattle.std.specs.Prelude.{◌≡◌, ◌+◌, ◌/◌, ◌<◌, ◌≤◌, ◌++◌, All, IfOk, OnOk, Some, length, slice_get};
-ghost use Rattle.lama_edges.specs.Table.{fragment_slots, table_slots, HasTail};
+ghost use Rattle.lama_edges.specs.Table.{fragment_slots, table_slots, HasTail, HasEdge};
+ghost use Rattle.lama_edges.specs.declared.records.Slot.TheVariants.{Edge};
 
+use crate::builder::TableBuilder;
 use crate::records::{Fragment, Slot};
-use lama_array::{Builder, VArray};
+use crate::tails::{Tail, slot_of};
+use lama_array::VArray;
 use lama_pages::Steps;
 use std::alloc::{AllocError, Global};
 use std::marker::Model;
@@ -11,19 +14,25 @@ use std::sync::ledger::Ledger;
 /// The edge table of one level: fragments of adjacency lists, one after another. A contract sees it as the list of its
 /// slots.
 ///
-/// It never changes. It takes a page for each 256 slots.
+/// It never changes. It takes a page for each 256 slots, of four bytes for each, and beside them twenty for the tail
+/// of each fragment.
 #[derive(Drop)]
 pub struct EdgeTable {
-    slots: VArray<Slot>,
+    // Of an edge its target, and of a tail its number in `tails`.
+    pub(crate) words: VArray<u32>,
+    pub(crate) tails: Vec<Tail>,
 }
 
 impl Model for EdgeTable {
-    ghost use Rattle.std.specs.Prelude.{List};
+    ghost use Rattle.std.specs.Prelude.{List, length};
     ghost use Rattle.lama_edges.specs.declared.records.Slot.{Slot};
+    ghost use Rattle.lama_edges.specs.Placed.{slots_from, AreTails};
 
     ghost Value = { List Slot };
 
-    ghost view = { λ table. table.slots };
+    ghost view = { λ table. slots_from table.tails.items 0 table.words };
+
+    ghost invariant = { λ table. AreTails (length table.words) table.tails.items };
 }
 
 impl EdgeTable {
@@ -43,27 +52,18 @@ impl EdgeTable {
             (pages.new ≡ pages.old + (length (table_slots fragments.now) + 255) / 256) }
         ensures at_most { pages.new ≤ pages.old + (length (table_slots fragments.now) + 255) / 256 }
     {
-        let mut slots = Builder::new(alloc);
+        let mut slots = TableBuilder::new(alloc);
         for fragment in fragments {
             push_fragment(&mut slots, fragment, pages)?;
         }
-        Ok(EdgeTable {
-            slots: slots.finish()?,
-        })
-    }
-
-    /// The table with these slots, which were put in their order before. It makes no page.
-    pub fn from_slots(slots: VArray<Slot>) -> EdgeTable
-        ensures { result ≡ slots }
-    {
-        EdgeTable { slots }
+        slots.finish()
     }
 
     /// How many slots the table has, tails among them.
     pub fn len(&self) -> u32
         ensures { result ≡ length self.now }
     {
-        self.slots.len()
+        self.words.len()
     }
 
     /// The slot at place `i`, counted from 0, with no search. It takes no memory.
@@ -71,13 +71,22 @@ impl EdgeTable {
         requires { i < length self.now }
         ensures { slice_get self.now i ≡ Some result }
     {
-        self.slots.get(i)
+        slot_of(&self.tails, i, self.words.get(i))
+    }
+
+    /// The target of the edge at place `i`, counted from 0, with no search. It takes no memory.
+    #[inline(always)]
+    pub fn target(&self, i: u32) -> u32
+        requires { HasEdge self.now i }
+        ensures { slice_get self.now i ≡ Some (Edge result) }
+    {
+        self.words.get(i)
     }
 }
 
 // Adds the slots of a fragment at the end.
 fn push_fragment<L: Ledger>(
-    slots: &mut Builder<Slot>,
+    slots: &mut TableBuilder,
     fragment: &Fragment,
     pages: &mut Steps<L>,
 ) -> Result<(), AllocError>

@@ -25,9 +25,6 @@ value_after-push i [] p old = refl
 value_after-push i (q ∷ ps) p old = value_after-push i ps p (cond (eqb q.0 i) q.1 old)
 
 -- none is written yet
-pub marked-none : (number : ℕ) (marks : List ℕ) → AreMarked [] number marks marks
-marked-none number marks = record { len = refl; each = λ i lt. refl }
-
 pub written-none : (values : List ℕ) → AreWritten [] values values
 written-none values = record { len = refl; each = λ i lt. refl }
 

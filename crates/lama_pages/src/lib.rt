@@ -1,6 +1,7 @@
 //! Pages of 256 records, the blocks that versions of an array share, and the counter of made pages.
 #![tactic(auto)]
 
+mod block;
 mod page;
 mod steps;
 

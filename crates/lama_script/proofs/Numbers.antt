@@ -1,5 +1,5 @@
 -- The value of a word's digits, read one by one.
-use Rattle.std.proofs.Common.{◌≡◌, refl, ap, ℕ, ◌+◌, ◌-◌, ◌*◌, ◌<◌, ◌≤◌, Bool, true, false, ◌&&◌, nat_le, if◌then◌else◌, List, [], ◌∷◌, length, Option, Some, None, arith}
+use Rattle.std.proofs.Common.{◌≡◌, ◌∙◌, refl, sym, ap, ℕ, ◌+◌, ◌-◌, ◌*◌, ◌<◌, ◌≤◌, Bool, true, false, ◌&&◌, nat_le, if◌then◌else◌, List, [], ◌∷◌, length, Option, Some, None, arith}
 use Rattle.std.specs.List.{list_all, fold}
 use Rattle.std.proofs.lemmas.Bool.{le-leb, lt-leb}
 use Rattle.lama_model.specs.Script.{number, is_digit}
@@ -46,3 +46,11 @@ no_more false b n e = refl
 pub number_from-over : (n : ℕ) (bs : List ℕ) → 4294967295 < n → number_from n bs ≡ None
 unfolding number_from
 number_from-over n bs l = no_more (list_all is_digit bs) _ _ (lt-leb _ _ (omega (arith, value-grows n bs)))
+
+-- digits of a value that is not too great
+pub number-of : (ds : List ℕ) (v : ℕ) → 0 < length ds → list_all is_digit ds ≡ true → v ≡ fold with_digit 0 ds → v ≤ 4294967295 → number ds ≡ Some v
+unfolding number_from
+number-of ds v some all is small =
+    sym (number-start ds some)
+    ∙ (λ j. if all j && nat_le (sym is j) 4294967295 then Some (sym is j) else None)
+    ∙ ap (λ t. if t then Some v else None) (le-leb v 4294967295 small)

@@ -26,10 +26,10 @@ pub words-blank : (b : ℕ) (bs : List ℕ) → is_blank b ≡ true → words (b
 unfolding words
 words-blank b bs e = ap (filter is_nonempty) (slice_split-cons_yes is_blank b bs e)
 
-blank_at-cons_yes : (b : ℕ) (bs : List ℕ) → is_blank b ≡ true → blank_at (b ∷ bs) ≡ 0
+pub blank_at-cons_yes : (b : ℕ) (bs : List ℕ) → is_blank b ≡ true → blank_at (b ∷ bs) ≡ 0
 blank_at-cons_yes b bs e = ap (λ t. cond (not t) (1 + blank_at bs) 0) e
 
-blank_at-cons_no : (b : ℕ) (bs : List ℕ) → is_blank b ≡ false → blank_at (b ∷ bs) ≡ 1 + blank_at bs
+pub blank_at-cons_no : (b : ℕ) (bs : List ℕ) → is_blank b ≡ false → blank_at (b ∷ bs) ≡ 1 + blank_at bs
 blank_at-cons_no b bs e = ap (λ t. cond (not t) (1 + blank_at bs) 0) e
 
 word_at-cons_yes : (b : ℕ) (bs : List ℕ) → is_blank b ≡ true → word_at (b ∷ bs) ≡ 1 + word_at bs
@@ -111,7 +111,7 @@ position-is p bs i e =
     (found.1, omega (arith, ltb-true (position_or_len p bs) (length bs) found.0))
 
 -- where none passes, the first place is the end
-position-or : (p : ℕ → Bool) (bs : List ℕ) → unwrap_or (position p bs) (length bs) ≡ position_or_len p bs
+pub position-or : (p : ℕ → Bool) (bs : List ℕ) → unwrap_or (position p bs) (length bs) ≡ position_or_len p bs
 position-or p bs =
     elim (nat_lt (position_or_len p bs) (length bs)) as (λ t. nat_lt (position_or_len p bs) (length bs) ≡ t → unwrap_or (cond t (Some (position_or_len p bs)) None) (length bs) ≡ position_or_len p bs) [
       | true ↦ λ e. refl

@@ -1,9 +1,10 @@
 //! The grammar of a script's lines: words, numbers and commands.
 
-ghost use Rattle.std.specs.Prelude.{◌≡◌, [], ◌∷◌, not, length, MatchOption, None, Some, IsTrue, ◌↔◌};
+ghost use Rattle.std.specs.Prelude.{◌≡◌, ◌<◌, ◌^◌, [], ◌∷◌, ⊤, not, true, length, MatchOption, None, Some, IsTrue, ◌↔◌};
 ghost use Rattle.std.specs.List.{position};
 ghost use Rattle.lama_model.specs.Script.{words, number, vertices_command, add_command, del_command, weigh_command, checkpoint_command, row_read, edges_read, read_of, behind_at, reading_of, command_of, meaning, without_return};
 ghost use Rattle.lama_model.specs.Script as grammar;
+ghost use Rattle.lama_script.specs.Numbers.{IsFirstNumber, IsLeading};
 ghost use Rattle.lama_script.specs.Parsing.{answer_to};
 
 use crate::item::{Item, ScriptFault};
@@ -97,6 +98,61 @@ fn number(word: &[u8]) -> Option<u32>
     Some(value as u32)
 }
 
+/// The number before the first blank, or before the end, and where that is. None where another byte comes first, or where
+/// there is no number.
+fn leading_number(text: &[u8]) -> Option<(u32, usize)>
+    ensures { MatchOption result ⊤ (λ found. IsLeading text.now found.0 found.1) }
+{
+    let mut value = 0u64;
+    let mut len = 0;
+    for &next in text {
+        if !next.is_ascii_digit() {
+            return leading_end(next, value, len);
+        }
+        value = value * 10 + u64::from(next - b'0');
+        if value > u64::from(u32::MAX) {
+            return None;
+        }
+        len += 1;
+    }
+    some_number(value, len)
+}
+
+fn leading_end(byte: u8, value: u64, len: usize) -> Option<(u32, usize)>
+    requires { value < 2 ^ 32 }
+    ensures { MatchOption result ⊤ (λ found. (found.0 ≡ value) × (found.1 ≡ len) × (0 < len) × (grammar.is_blank byte ≡ true)) }
+{
+    if is_blank(byte) {
+        return some_number(value, len);
+    }
+    None
+}
+
+fn some_number(value: u64, len: usize) -> Option<(u32, usize)>
+    requires { value < 2 ^ 32 }
+    ensures { MatchOption result ⊤ (λ found. (found.0 ≡ value) × (found.1 ≡ len) × (0 < len)) }
+{
+    if len == 0 {
+        return None;
+    }
+    Some((value as u32, len))
+}
+
+/// The number that the first word of the bytes spells, if it spells one, and what stands after it, or None where they have
+/// no word. A number is read as it is looked for, so each of its bytes is read once.
+fn first_number(bytes: &[u8]) -> Option<(Option<u32>, &[u8])>
+    ensures { MatchOption result (words bytes.now ≡ []) (λ found. IsFirstNumber bytes.now found.0 found.1.now) }
+{
+    let start = word_start(bytes)?;
+    let text = &bytes[start..];
+    if let Some((value, end)) = leading_number(text) {
+        return Some((Some(value), &text[end..]));
+    }
+    let end = first_blank(text).unwrap_or(text.len());
+    let (word, rest) = text.split_at(end);
+    Some((number(word), rest))
+}
+
 /// The command that the word and the words after it spell.
 #[tactic(auto, unfolding(lama_model::specs::Script::command_of))]
 fn command(word: &[u8], args: &[u8]) -> Option<Command>
@@ -165,47 +221,47 @@ fn is_end(args: &[u8]) -> bool
 fn vertices(args: &[u8]) -> Option<Command>
     ensures { result ≡ vertices_command (words args.now) }
 {
-    let (count, rest) = first_word(args)?;
+    let (count, rest) = first_number(args)?;
     if !is_end(rest) {
         return None;
     }
-    Some(Command::Write(Write::Vertices(number(count)?)))
+    Some(Command::Write(Write::Vertices(count?)))
 }
 
 fn add(args: &[u8]) -> Option<Command>
     ensures { result ≡ add_command (words args.now) }
 {
-    let (source, args) = first_word(args)?;
-    let (target, args) = first_word(args)?;
-    let weight = match first_word(args) {
-        Some((weight, args)) if is_end(args) => number(weight)?,
+    let (source, args) = first_number(args)?;
+    let (target, args) = first_number(args)?;
+    let weight = match first_number(args) {
+        Some((weight, args)) if is_end(args) => weight?,
         Some(_) => return None,
         None => 1,
     };
-    Some(Command::Write(Write::Add(number(source)?, number(target)?, u64::from(weight))))
+    Some(Command::Write(Write::Add(source?, target?, u64::from(weight))))
 }
 
 fn del(args: &[u8]) -> Option<Command>
     ensures { result ≡ del_command (words args.now) }
 {
-    let (source, args) = first_word(args)?;
-    let (target, rest) = first_word(args)?;
+    let (source, args) = first_number(args)?;
+    let (target, rest) = first_number(args)?;
     if !is_end(rest) {
         return None;
     }
-    Some(Command::Write(Write::Remove(number(source)?, number(target)?)))
+    Some(Command::Write(Write::Remove(source?, target?)))
 }
 
 fn weigh(args: &[u8]) -> Option<Command>
     ensures { result ≡ weigh_command (words args.now) }
 {
-    let (source, args) = first_word(args)?;
-    let (target, args) = first_word(args)?;
-    let weight = match first_word(args) {
-        Some((weight, args)) if is_end(args) => number(weight)?,
+    let (source, args) = first_number(args)?;
+    let (target, args) = first_number(args)?;
+    let weight = match first_number(args) {
+        Some((weight, args)) if is_end(args) => weight?,
         _ => return None,
     };
-    Some(Command::Write(Write::Weigh(number(source)?, number(target)?, u64::from(weight))))
+    Some(Command::Write(Write::Weigh(source?, target?, u64::from(weight))))
 }
 
 fn checkpoint(args: &[u8]) -> Option<Command>
@@ -217,11 +273,11 @@ fn checkpoint(args: &[u8]) -> Option<Command>
 fn row(args: &[u8]) -> Option<Read>
     ensures { result ≡ row_read (words args.now) }
 {
-    let (vertex, rest) = first_word(args)?;
+    let (vertex, rest) = first_number(args)?;
     if !is_end(rest) {
         return None;
     }
-    Some(Read::Row { v: number(vertex)? })
+    Some(Read::Row { v: vertex? })
 }
 
 fn edges(args: &[u8]) -> Option<Read>

@@ -9,6 +9,7 @@ pub mod Standing
 pub mod Surviving
 pub mod Nested
 pub mod Walks
+pub mod Fragment
 pub mod Known
 pub mod BaseSnap
 pub mod WriteLemmas

@@ -1,5 +1,5 @@
 -- Numbers of edges and slots, by changes and by rows.
-use Rattle.std.proofs.Common.{◌≡◌, ◌∙◌, ℕ, zero, suc, ◌+◌, ◌-◌, ◌*◌, ◌/◌, ◌<◌, ◌≤◌, List, [], ◌∷◌, length, get_or, map, refl, sym, ap, subst, arith, inl, inr, ◌⊎◌, Bool, true, false, eqb, ◌&&◌}
+use Rattle.std.proofs.Common.{◌≡◌, ◌∙◌, ℕ, zero, suc, ◌+◌, ◌-◌, ◌<◌, ◌≤◌, List, [], ◌∷◌, length, get_or, map, refl, sym, ap, subst, arith, inl, inr, ◌⊎◌, Bool, true, false, eqb, ◌&&◌}
 use Rattle.std.specs.Prelude.{All, sum_by, IsTrue, ◌↔◌}
 use Rattle.std.specs.List.Sorted.{IsStrictlyIncreasing}
 use Rattle.std.proofs.lemmas.Bool.{false≢true, cases_lt}
@@ -10,7 +10,7 @@ use Rattle.std.proofs.lemmas.List.Kept.{AllPairs-from_increasing}
 use Rattle.lama_edges.specs.declared.records.VertexRec.{VertexRec}
 use Rattle.lama_model.specs.Row.{edges_in}
 use Rattle.lama_model.specs.Change.{RowChange, Change, IsRowChange, is_empty_change}
-use Rattle.lama_model.specs.Bounds.{touched, added_edges, killed_edges, set_edges, checkpoint_pages}
+use Rattle.lama_model.specs.Bounds.{touched, added_edges, killed_edges, set_edges}
 use Rattle.lama_model.specs.Fits.{Fits, HasIndexes}
 use Rattle.lama_snapshot.specs.Cells.{Columns}
 use Rattle.lama_snapshot.specs.Chains.{Layout, IsRecord, rows_from}
@@ -105,13 +105,6 @@ level-le p p' p0 c extended written =
   where
     by : (z : ℕ) → p' ≤ p + length c.rows + z → p' ≤ p0 + length c.rows + z + 2
     by z w = omega (arith, extended, w)
-
--- pages of a checkpoint
-pub checkpoint-le : (p0 p1 p2 p3 p4 : ℕ) (c : Change) → p1 ≤ p0 + killed_edges c → p2 ≤ p1 + set_edges c → p3 ≤ p2 + touched c + pages_for (added_edges c + touched c) + 2 → p4 ≤ p3 + 1 → p4 ≤ p0 + checkpoint_pages c
-checkpoint-le p0 p1 p2 p3 p4 c hidden weighed level marked = by (touched c) (added_edges c) (killed_edges c) (set_edges c) hidden weighed level
-  where
-    by : (n a k s : ℕ) → p1 ≤ p0 + k → p2 ≤ p1 + s → p3 ≤ p2 + n + 2 * ((a + n + 255) / 256) + 2 → p4 ≤ p0 + (n + k + s + 2 * ((a + n) / 256) + 8)
-    by n a k s hidden weighed level = omega (arith, hidden, weighed, level, marked)
 
 -- where the last of rising indexes is below n, all are
 pub last-below : (ks : List ℕ) (n : ℕ) → IsStrictlyIncreasing ks → 0 < length ks → get_or ks (length ks - 1) 0 < n → (k : ℕ) → k < length ks → get_or ks k 0 < n

@@ -4,6 +4,7 @@ use Rattle.std.specs.List.{range_with_len}
 use Rattle.lama_edges.specs.declared.records.Slot.{Slot}
 use Rattle.lama_edges.specs.declared.records.Slot.TheVariants.{Edge, Next, End}
 use Rattle.lama_edges.specs.declared.records.VertexRec.{VertexRec}
+use Rattle.lama_edges.specs.Table.{HasEdge}
 use Rattle.lama_model.specs.Row.{row_at}
 use Rattle.lama_snapshot.specs.declared.level.Cell.{Cell}
 use Rattle.lama_snapshot.specs.BaseRows.{base_slots}
@@ -45,9 +46,8 @@ abbrev pub slot_at : Layout → Cell → Option Slot
 slot_at l c = slice_get (table_at l c.table).slots c.place
 
 -- the slot in the cell is an edge
-pub record IsEdgeCell (l : Layout) (c : Cell) : Type 0 where
-  pub target : ℕ
-  pub slot_is : slot_at l c ≡ Some (Edge target)
+abbrev pub IsEdgeCell : Layout → Cell → Type 0
+IsEdgeCell l c = HasEdge (table_at l c.table).slots c.place
 
 -- the first of these edges is the one in the cell
 pub record IsAtCell (l : Layout) (c : Cell) (row rest : List (ℕ × Cell)) : Type 0 where

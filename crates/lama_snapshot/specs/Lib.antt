@@ -8,4 +8,5 @@ pub mod Levels
 pub mod Shown
 pub mod NewLevel
 pub mod Loops
+pub mod Places
 pub mod Found

@@ -173,9 +173,7 @@ impl Rows for Base {
         if at.left == 0 {
             return None;
         }
-        let Slot::Edge { target } = self.edges.slot(at.offset) else {
-            unreachable!()
-        };
+        let target = self.edges.target(at.offset);
         let rest = BaseAt {
             offset: at.offset + 1,
             left: at.left - 1,

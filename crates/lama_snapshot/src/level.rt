@@ -50,7 +50,7 @@ pub(crate) const NO_RECORD: VertexRec = VertexRec {
     degree: 0,
 };
 
-ghost use Rattle.lama_snapshot.specs.Levels.{table_of, HasEdge};
+ghost use Rattle.lama_snapshot.specs.Levels.{table_of};
 ghost use Rattle.lama_snapshot.specs.Written.{IsEven, Wrote, next_of, record_with, pages_for, IsWritten, IsWithin, slots_of};
 ghost use Rattle.std.specs.List.Sorted.{IsStrictlyIncreasing};
 ghost use Rattle.lama_edges.specs.declared.records.VertexRec.{VertexRec as SeenRec};
@@ -123,18 +123,6 @@ pub(crate) fn cell_at(table: u32, at: SnapshotAt) -> (Cell, SnapshotAt)
             left: at.left - 1,
         },
     )
-}
-
-// The target of the edge in a slot.
-#[inline(always)]
-pub(crate) fn target_in(edges: &EdgeTable, place: u32) -> u32
-    requires { HasEdge edges.now place }
-    ensures { slice_get edges.now place ≡ Some (SeenEdge result) }
-{
-    let Slot::Edge { target } = edges.slot(place) else {
-        unreachable!()
-    };
-    target
 }
 
 // Writes the fragment of a row that changes, and gives its vertex the record of it.

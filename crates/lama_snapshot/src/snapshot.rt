@@ -15,7 +15,7 @@ ghost use Rattle.lama_snapshot.specs.Found.{cells_at, killed_slot, set_slot, kil
 use crate::apply::{NewLevel, edges_at_most, edges_of, push_level, write_level};
 use crate::base::Base;
 use crate::found::{FoundSlots, by_table, find_killed, find_set, hide_all, weigh_all};
-use crate::level::{Cell, Level, SnapshotAt, cell_at, level_at, place_of, target_in};
+use crate::level::{Cell, Level, SnapshotAt, cell_at, level_at, place_of};
 use lama_array::VArray;
 use lama_base::limits::{MAX_EDGES, MAX_NUMBER, MAX_VERTICES};
 use lama_delta::{Change, RowChange};
@@ -245,7 +245,9 @@ impl Snapshot {
         find_set(&cells, &row.set, &mut found.set)
     }
 
-    // The cells of the edges of the row of `v`, newest first; a vertex that is not there has none.
+    // The cells of the edges of the row of `v`, newest first; a vertex that is not there has none. Where the row goes on
+    // is looked up before the marks of a fragment are read, so that a machine may wait for both at once.
+    #[inline(never)]
     fn row_cells(&self, alloc: Global, v: u32) -> Result<Vec<Cell>, AllocError>
         ensures cells { IfOk result (λ cells. cells.items ≡ cells_at self.now v) }
         ensures len { IfOk result (λ cells. length cells.items ≡ length (row_at self.now.rows v)) }
@@ -254,12 +256,67 @@ impl Snapshot {
         if v >= self.vertices.len() {
             return Ok(cells);
         }
-        let mut at = self.row_place(v);
-        while let Some((cell, rest)) = self.next_standing(at) {
-            cells.push(cell)?;
-            at = rest;
+        let mut next = Some(self.row_place(v));
+        while let Some(at) = next {
+            next = self.behind(at);
+            self.take_fragment(at, &mut cells)?;
         }
         Ok(cells)
+    }
+
+    // Where the row goes on behind what is left of a fragment.
+    #[inline(always)]
+    fn behind(&self, at: SnapshotAt) -> Option<SnapshotAt>
+        requires { IsPlace self.now.layout (length self.now.rows) at.v at.level at.offset at.left }
+        ensures { MatchOption result (place_cells self.now.layout at.v at.level (at.offset + at.left) 0 ≡ []) (λ next.
+            IsPlace self.now.layout (length self.now.rows) next.v next.level next.offset next.left
+            × (next.level < at.level)
+            × (place_cells self.now.layout next.v next.level next.offset next.left ≡ place_cells self.now.layout at.v at.level (at.offset + at.left) 0)) }
+    {
+        let base: &Base = &self.base;
+        let floor = base.number();
+        if at.level <= floor {
+            return None;
+        }
+        let level = level_at(&self.levels, floor, at.level);
+        match level.edges.slot(at.offset + at.left) {
+            Slot::Next { level, offset, len } => Some(place_of(base, at.v, level, offset, len)),
+            _ => None,
+        }
+    }
+
+    // Puts the cells of the edges that stand in what is left of a fragment at the end.
+    #[inline(always)]
+    fn take_fragment(&self, start: SnapshotAt, cells: &mut Vec<Cell>) -> Result<(), AllocError>
+        requires { IsPlace self.now.layout (length self.now.rows) start.v start.level start.offset start.left }
+        ensures { OnOk result (cells.new.items ++ map (λ p. p.1) (standing self.now.columns (place_cells self.now.layout start.v start.level (start.offset + start.left) 0))
+            ≡ cells.old.items ++ map (λ p. p.1) (standing self.now.columns (place_cells self.now.layout start.v start.level start.offset start.left))) }
+    {
+        let table = self.table_of_level(start.level);
+        let marks = &self.hidden[table as usize];
+        let mut place = start.offset;
+        let mut left = start.left;
+        while left > 0 {
+            if marks.hidden_at(place) == 0 {
+                cells.push(Cell { table, place })?;
+            }
+            place += 1;
+            left -= 1;
+        }
+        Ok(())
+    }
+
+    // The table of the level of that number: that of the base, which is 0, up to the floor.
+    #[inline(always)]
+    fn table_of_level(&self, level: u32) -> u32
+        ensures { result ≡ level - self.now.layout.floor }
+    {
+        let base: &Base = &self.base;
+        let floor = base.number();
+        if level <= floor {
+            return 0;
+        }
+        level - floor
     }
 
     // Where the row of `v` begins.
@@ -341,10 +398,10 @@ impl Snapshot {
     {
         let base: &Base = &self.base;
         if cell.table == 0 {
-            return target_in(base.edges(), cell.place);
+            return base.edges().target(cell.place);
         }
         let level: &Level = &self.levels[(cell.table - 1) as usize];
-        target_in(&level.edges, cell.place)
+        level.edges.target(cell.place)
     }
 
     /// Whether the change goes on from this snapshot: its number is the next one, its indexes are places of these

@@ -5,7 +5,7 @@ ghost use Rattle.lama_model.specs.Row.{row_at};
 ghost use Rattle.lama_snapshot.specs.Fragments.{fragment_slots, fragment_weights};
 
 use lama_array::Builder;
-use lama_edges::{EdgeTable, Slot};
+use lama_edges::{EdgeTable, Slot, TableBuilder};
 use lama_marks::Weights;
 use lama_model::Rows;
 use lama_pages::Steps;
@@ -15,7 +15,7 @@ use std::sync::ledger::Ledger;
 // The slots of an edge table and the weights beside them, in the order in which they are written.
 #[derive(Drop)]
 pub(crate) struct Writer {
-    pub slots: Builder<Slot>,
+    pub slots: TableBuilder,
     pub weights: Builder<u64>,
     // How many of each there are.
     pub len: u32,
@@ -31,7 +31,7 @@ impl Writer {
         ensures even { IsEven result }
     {
         Writer {
-            slots: Builder::new(alloc),
+            slots: TableBuilder::new(alloc),
             weights: Builder::new(alloc),
             len: 0,
         }
@@ -111,9 +111,6 @@ impl Writer {
             weights,
             len: _,
         } = self;
-        Ok((
-            EdgeTable::from_slots(slots.finish()?),
-            Weights::from_column(weights.finish()?),
-        ))
+        Ok((slots.finish()?, Weights::from_column(weights.finish()?)))
     }
 }

@@ -22,6 +22,7 @@ use std::alloc::{AllocError, Global};
 use std::env;
 use std::io::ErrorKind;
 use std::marker::Brand;
+use std::mem::forget;
 use std::process::ExitCode;
 use std::sync::ledger::{Blank, Ledger};
 
@@ -50,7 +51,7 @@ fn run_standard<L: Ledger>(rt: &HostRuntime, words: &[String], blank: Blank) -> 
     let mut source = StdSource::new(rt);
     let mut sink = StdSink::new(rt);
     let mut pages: Steps<L> = Steps::open(blank);
-    run_llama(
+    let end = run_llama(
         rt,
         rt.alloc(),
         words,
@@ -58,8 +59,10 @@ fn run_standard<L: Ledger>(rt: &HostRuntime, words: &[String], blank: Blank) -> 
         &mut sink,
         &NoGate,
         &mut pages,
-    )
-    .status
+    );
+    // The system takes the whole memory back at once, so the book is not taken apart page by page.
+    forget(end.book);
+    end.status
 }
 
 fn main(rt: HostRuntime) -> ExitCode {

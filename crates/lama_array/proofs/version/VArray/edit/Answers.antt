@@ -6,15 +6,14 @@ use Rattle.lama_array.proofs.version.VArray.edit.Goals as goal
 
 pub returns-clause-owned : goal.returns-clause-owned
 returns-clause-owned g c =
-    let table = (arc_value c.self.inside.table).items in
     let count : c.loop-page.page-index ≡ (length c.args.self.now + 255) / 256 =
     omega (
       arith,
       c.loop-page-test.false,
       c.loop-page.auto.page-index-end,
       ap length c.deref-page-items.ensures.value,
-      ap (λ v. length v.items) c.deref-table.ensures,
-      length-map table arc_value,
+      ap length c.entries-table.ensures,
+      length-map c.entries-table.result.now.items arc_value,
       c.self.invariant.covered,
       c.self.invariant.tight,
       length-kept _ _ c.self.invariant,

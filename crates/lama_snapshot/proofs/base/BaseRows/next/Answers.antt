@@ -7,9 +7,18 @@ use Rattle.lama_snapshot.specs.BaseRows.{base_slots, base_weights, base_suffix}
 use Rattle.lama_snapshot.proofs.RowFrom.{row_from-step, base-length}
 use Rattle.lama_snapshot.proofs.base.BaseRows.next.Goals as goal
 
+pub target-target-requires : goal.target-target-requires
+target-target-requires c =
+    let inv = c.self.invariant in
+    let rows = ap (λ b. b.rows) c.self.view_is in
+    let slots = inv.slots_are ∙ ap base_slots rows in
+    let left : 0 < c.args.at.left = omega arith in
+    let step = row_from-step (base_slots c.args.self.now.rows) (base_weights c.args.self.now.rows) (λ s. Some []) c.args.at.offset c.args.at.left left c.requires in
+    record { target = step.target; slot_is = ap (λ xs. slice_get xs c.args.at.offset) slots ∙ step.slot_is }
+
 pub overflow_add-rest : goal.overflow_add-rest
 overflow_add-rest c =
-    let within = slice_get_within c.self.inside.edges c.args.at.offset (Edge c.in-Edge.target) c.in-Edge.ensures in
+    let within = slice_get_within c.self.inside.edges c.args.at.offset (Edge c.target-target.result) c.target-target.ensures in
     let l = ap length c.self.invariant.slots_are in
     let few = base-length _ c.self.invariant.few c.self.invariant.vertices in
     let below : c.args.at.offset + 1 < 2 ^ 32 = omega (arith, within, l, few) in
@@ -34,9 +43,9 @@ returns c =
     let weights = inv.weights_are ∙ ap base_weights rows in
     let left : 0 < c.args.at.left = omega arith in
     let step = row_from-step (base_slots c.args.self.now.rows) (base_weights c.args.self.now.rows) (λ s. Some []) c.args.at.offset c.args.at.left left c.requires in
-    let same : Some (Edge step.target) ≡ Some (Edge c.in-Edge.target) = sym step.slot_is ∙ (ap (λ xs. slice_get xs c.args.at.offset) (sym slots) ∙ c.in-Edge.ensures) in
-    let target : step.target ≡ c.in-Edge.target = cc in
+    let same : Some (Edge step.target) ≡ Some (Edge c.target-target.result) = sym step.slot_is ∙ (ap (λ xs. slice_get xs c.args.at.offset) (sym slots) ∙ c.target-target.ensures) in
+    let target : step.target ≡ c.target-target.result = cc in
     let weight : step.weight ≡ c.weight.result = sym (get_or_from_slice_get (base_weights c.args.self.now.rows) c.args.at.offset step.weight 0 step.weight_is) ∙ (ap (λ xs. get_or xs c.args.at.offset 0) (sym weights) ∙ sym c.weight.ensures) in
     let whole = ap (λ r. unwrap_or r []) step.reads in
-    let is : (step.target, step.weight) ≡ (c.in-Edge.target, c.weight.result) = cc in
+    let is : (step.target, step.weight) ≡ (c.target-target.result, c.weight.result) = cc in
     (step.some, whole ∙ ap (λ (p : ℕ × ℕ). p ∷ unwrap_or (base_suffix c.args.self.now.rows (c.args.at.offset + 1) (c.args.at.left - 1)) []) is)

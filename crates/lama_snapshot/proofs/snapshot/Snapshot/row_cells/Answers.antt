@@ -26,8 +26,8 @@ returns-then-v-len-clause-len c =
     let none = get_or_past s.rows c.args.v [] (omega (arith, n, is, past, k)) in
     ap length c.in_ok-cells.ensures.items ∙ sym (ap length none)
 
-pub row_place-at-requires : goal.row_place-at-requires
-row_place-at-requires c =
+pub row_place-requires : goal.row_place-requires
+row_place-requires c =
     let n = length-rows_from (shown c.self.inside).layout (columns_of c.self.inside) c.self.inside.vertices in
     let is = ap (λ (x : Snap). length x.rows) c.self.view_is in
     let lt = c.if-v-len.false in

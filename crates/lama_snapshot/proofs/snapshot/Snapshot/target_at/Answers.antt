@@ -12,8 +12,8 @@ use Rattle.lama_snapshot.proofs.ChainLemmas.{get-map-map}
 use Rattle.lama_snapshot.proofs.NextLemmas.{cell-within}
 use Rattle.lama_snapshot.proofs.snapshot.Snapshot.target_at.Goals as goal
 
-pub target_in-requires-2 : goal.target_in-requires-2
-target_in-requires-2 c =
+pub target-requires-2 : goal.target-requires-2
+target-requires-2 c =
     let snap = c.args.self.now in
     let r = c.args.cell.table in
     let items = c.self.inside.levels.items in
@@ -48,4 +48,4 @@ returns c =
     ∙ (ap (λ (x : Arc Level Global). table_of (arc_value x)) c.index.ensures
     ∙ (sym (get-map-map arc_value table_of items (r - 1) c.index.result.now no_table lt)
     ∙ (ap (λ (xs : List Table). get_or xs (r - 1) no_table) levels ∙ ap (table_at snap.layout) up))) in
-    ap (λ (t : Table). slice_get t.slots c.args.cell.place) (sym table) ∙ c.target_in-2.ensures
+    ap (λ (t : Table). slice_get t.slots c.args.cell.place) (sym table) ∙ c.target-2.ensures

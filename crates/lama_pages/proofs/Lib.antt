@@ -1,0 +1,4 @@
+pub mod Crosses
+pub mod Fields
+pub mod Memory
+pub mod Records

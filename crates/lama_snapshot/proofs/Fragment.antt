@@ -1,0 +1,75 @@
+-- Steps inside a fragment, by a snapshot's fields.
+use Rattle.std.proofs.Common.{◌≡◌, ◌∙◌, ℕ, zero, suc, ◌+◌, ◌-◌, ◌<◌, ◌≤◌, List, [], ◌∷◌, ◌++◌, length, map, ap, sym, subst, true, false, arith, inl, inr, ◌⊎◌}
+use Rattle.std.specs.Prelude.{All, IsSome}
+use Rattle.std.proofs.lemmas.Bool.{cases_lt}
+use Rattle.std.proofs.lemmas.List.{append_assoc}
+use Rattle.std.proofs.lemmas.Option.{slice_get_within}
+use Rattle.lama_edges.specs.declared.records.Slot.TheVariants.{Edge}
+use Rattle.lama_snapshot.specs.declared.level.Cell.{Cell}
+use Rattle.lama_snapshot.specs.BaseRows.{base_slots}
+use Rattle.lama_snapshot.specs.Cells.{Columns, standing, stands}
+use Rattle.lama_snapshot.specs.Chains.{no_table, Layout, place_row, place_cells, IsPlace, AreColumns}
+use Rattle.lama_snapshot.specs.Snap.{IsTable, IsCell}
+use Rattle.lama_snapshot.proofs.StepLemmas.{level_table, edge-step, base-step}
+use Rattle.lama_snapshot.proofs.NextLemmas.{cell-above, cell-below}
+use Rattle.lama_snapshot.proofs.Walks.{first-stands, first-hidden}
+
+-- the next edge of a fragment, and the place behind it
+pub record FragmentStep (l : Layout) (cols : Columns) (count v level o left : ℕ) : Type 0 where
+  pub target : ℕ
+  pub few : o < 67108864
+  pub rest : IsPlace l count v level (o + 1) (left - 1)
+  pub cell : IsCell cols (record { table = level - l.floor; place = o })
+  pub reads : place_cells l v level o left ≡ (target, record { table = level - l.floor; place = o }) ∷ place_cells l v level (o + 1) (left - 1)
+
+pub fragment-step : (l : Layout) (cols : Columns) (count v level o left : ℕ) → AreColumns l cols → All IsTable l.levels → length (base_slots l.base) ≤ 67108864 → IsPlace l count v level o left → 0 < left → FragmentStep l cols count v level o left
+fragment-step l cols count v level o left columns tables few place some = by (cases_lt l.floor level)
+  where
+    by : (l.floor < level) ⊎ (level ≤ l.floor) → FragmentStep l cols count v level o left
+    by (inl above) =
+        let s = edge-step l v level o left above place.within some place.some in
+        let ok = tables (level - l.floor - 1) no_table (let w = place.within in omega (arith, above, w)) in
+        let lt = slice_get_within (level_table l level).slots o (Edge s.target) s.slot_is in
+        let n = ok.few in
+        record {
+          target = s.target;
+          few = omega (arith, lt, n);
+          rest = record { vertex = place.vertex; within = place.within; some = s.some };
+          cell = cell-above l cols level o s.target columns ok above place.within s.slot_is;
+          reads = s.reads;
+        }
+    by (inr low) =
+        let s = base-step l v level o left low some place.some in
+        let lt = slice_get_within (base_slots l.base) o (Edge s.target) s.slot_is in
+        let is : 0 ≡ level - l.floor = omega (arith, low) in
+        record {
+          target = s.target;
+          few = omega (arith, lt, few);
+          rest = record { vertex = place.vertex; within = place.within; some = s.some };
+          cell = subst (λ k. IsCell cols (record { table = k; place = o })) is (cell-below l cols o s.target columns s.slot_is);
+          reads = s.reads ∙ ap (λ k. (s.target, record { table = k; place = o }) ∷ place_cells l v level (o + 1) (left - 1)) is;
+        }
+
+-- the place behind what is left of a fragment
+pub place-behind : (l : Layout) (count v level o left : ℕ) → IsPlace l count v level o left → IsPlace l count v level (o + left) 0
+place-behind l count v level o zero place = subst (λ k. IsPlace l count v level k 0) (omega arith) place
+place-behind l count v level o (suc left) place =
+    subst (λ k. IsPlace l count v level k 0) (omega arith) (place-behind l count v level (o + 1) left (record { vertex = place.vertex; within = place.within; some = by (cases_lt l.floor level) }))
+  where
+    by : (l.floor < level) ⊎ (level ≤ l.floor) → IsSome (place_row l v level (o + 1) left)
+    by (inl above) = subst (λ k. IsSome (place_row l v level (o + 1) k)) (omega arith) (edge-step l v level o (suc left) above place.within (omega arith) place.some).some
+    by (inr low) = subst (λ k. IsSome (place_row l v level (o + 1) k)) (omega arith) (base-step l v level o (suc left) low (omega arith) place.some).some
+
+-- the cell of an edge that stands is put behind the others
+pub take-step : (cols : Columns) (so so' whole : List Cell) (xs : List (ℕ × Cell)) (p : ℕ × Cell) (rest : List (ℕ × Cell)) → xs ≡ p ∷ rest → so ++ map (λ p. p.1) (standing cols xs) ≡ whole → stands cols p ≡ true → so' ≡ so ++ p.1 ∷ [] →
+    so' ++ map (λ p. p.1) (standing cols rest) ≡ whole
+take-step cols so so' whole xs p rest are is up now =
+    ap (λ s. s ++ map (λ p. p.1) (standing cols rest)) now
+    ∙ (append_assoc so (p.1 ∷ []) (map (λ p. p.1) (standing cols rest))
+    ∙ (sym (ap (λ row. so ++ map (λ p. p.1) row) (ap (standing cols) are ∙ first-stands cols p rest up)) ∙ is))
+
+-- and that of a hidden one is passed
+pub pass-step : (cols : Columns) (so so' whole : List Cell) (xs : List (ℕ × Cell)) (p : ℕ × Cell) (rest : List (ℕ × Cell)) → xs ≡ p ∷ rest → so ++ map (λ p. p.1) (standing cols xs) ≡ whole → stands cols p ≡ false → so' ≡ so →
+    so' ++ map (λ p. p.1) (standing cols rest) ≡ whole
+pass-step cols so so' whole xs p rest are is down now =
+    ap (λ s. s ++ map (λ p. p.1) (standing cols rest)) now ∙ (sym (ap (λ row. so ++ map (λ p. p.1) row) (ap (standing cols) are ∙ first-hidden cols p rest down)) ∙ is)
