@@ -1,9 +1,9 @@
 pub mod Rising
 pub mod Named
 pub mod Groups
-pub mod Ordered
 pub mod RowLemmas
 pub mod Effects
 pub mod Valid
 pub mod Counted
 pub mod Sieves
+pub mod Ordered

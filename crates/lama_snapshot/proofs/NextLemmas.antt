@@ -15,11 +15,11 @@ use Rattle.lama_snapshot.specs.declared.snapshot.Snapshot.TheInside.{Inside}
 use Rattle.lama_snapshot.specs.Levels.{table_of}
 use Rattle.lama_snapshot.specs.BaseRows.{Numbered, base_slots}
 use Rattle.lama_snapshot.specs.Cells.{Columns}
-use Rattle.lama_snapshot.specs.Chains.{Table, no_table, Layout, table_at, chain, place_row, place_cells, IsPlace, slot_at, IsAtCell, base_table, AreColumns}
+use Rattle.lama_snapshot.specs.Chains.{Table, no_table, Layout, table_at, chain, place_row, IsPlace, slot_at, base_table, AreColumns}
 use Rattle.lama_snapshot.specs.Snap.{Snap, IsTable, IsCell}
 use Rattle.lama_snapshot.specs.Shown.{shown}
 use Rattle.lama_snapshot.proofs.CellsFrom.{length-base_sources}
-use Rattle.lama_snapshot.proofs.StepLemmas.{level_table, EdgeStep, tail-within, next-step, end-step}
+use Rattle.lama_snapshot.proofs.StepLemmas.{level_table, tail-within, next-step, end-step}
 
 pub floor-is : (s : Inside) (snap : Snap) (b : Numbered) (n : ℕ) → shown s ≡ snap → b ≡ arc_value s.base → n ≡ b.number → n ≡ snap.layout.floor
 floor-is s snap b n is base number = number ∙ (ap (λ (x : Numbered). x.number) base ∙ ap (λ (x : Snap). x.layout.floor) is)
@@ -68,26 +68,6 @@ pub slots-above : (l : Layout) (level : ℕ) → l.floor < level → (level_tabl
 slots-above l level above =
     let r : suc (level - l.floor - 1) ≡ level - l.floor = omega (arith, above) in
     ap (λ k. (table_at l k).slots) r
-
--- an edge that was found
-pub edge-returns : (l : Layout) (cols : Columns) (count : ℕ) (slots : List Slot) (sv slevel so sleft v level r o left : ℕ) → IsPlace l count v level o left → place_row l v level o left ≡ place_row l sv slevel so sleft → v ≡ sv →
-    EdgeStep l slots v level r o left → IsCell cols (record { table = r; place = o }) →
-    slots ≡ (table_at l r).slots → (c : Cell) (v' level' o' left' : ℕ) → c.table ≡ r → c.place ≡ o → v' ≡ v → level' ≡ level → o' ≡ o + 1 → left' ≡ left - 1 →
-    IsPlace l count v' level' o' left' × IsCell cols c × (v' ≡ sv) × IsAtCell l c (place_cells l sv slevel so sleft) (place_cells l v' level' o' left')
-edge-returns l cols count slots sv slevel so sleft v level r o left place same from s cell slots_are c v' level' o' left' et ep ev el eo er =
-    let P : Cell × ℕ × ℕ × ℕ × ℕ → Type 0 = λ p. IsPlace l count p.1 p.2 p.3 p.4 × IsCell cols p.0 × (p.1 ≡ sv) × IsAtCell l p.0 (place_cells l sv slevel so sleft) (place_cells l p.1 p.2 p.3 p.4) in
-    let here : P (record { table = r; place = o }, v, level, o + 1, left - 1) = (
-      record { vertex = place.vertex; within = place.within; some = s.some },
-      cell,
-      from,
-      record {
-        target = s.target;
-        slot_is = ap (λ xs. slice_get xs o) (sym slots_are) ∙ s.slot_is;
-        first = sym (ap (λ x. unwrap_or x []) same) ∙ s.reads;
-      },
-    ) in
-    let whole : record { table = r; place = o } ≡ c = λ j. record { table = sym et j; place = sym ep j } in
-    subst P (λ j. (whole j, sym ev j, sym el j, sym eo j, sym er j)) here
 
 -- where the row goes on
 pub next-returns : (l : Layout) (count : ℕ) (start : Option (List (ℕ × Cell))) (v level o left : ℕ) (level' o' len' v'' level'' o'' left'' : ℕ) → IsPlace l count v level o left → place_row l v level o left ≡ start → l.floor < level → left ≤ 0 →

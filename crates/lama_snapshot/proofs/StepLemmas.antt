@@ -10,7 +10,7 @@ use Rattle.lama_edges.specs.declared.records.VertexRec.{VertexRec}
 use Rattle.lama_model.specs.Row.{row_at}
 use Rattle.lama_snapshot.specs.BaseRows.{base_slots}
 use Rattle.lama_snapshot.specs.Cells.{Columns, visible}
-use Rattle.lama_snapshot.specs.Chains.{Table, no_table, Layout, after_fragment, chain, record_row, place_row, place_cells, base_cells, IsRecord, cells_of, rows_from}
+use Rattle.lama_snapshot.specs.Chains.{Table, no_table, Layout, after_fragment, chain, record_row, place_row, place_cells, IsRecord, cells_of, rows_from}
 use Rattle.lama_snapshot.specs.Snap.{no_record}
 use Rattle.lama_snapshot.proofs.CellsFrom.{cells_from-step}
 use Rattle.lama_snapshot.proofs.ChainLemmas.{chain-levels, place-at, place-low, cells_of-at, row-visible}
@@ -55,10 +55,6 @@ base-step l v level o left low some h =
       some = subst IsSome (sym next) s.some;
       reads = ap (λ x. unwrap_or x []) (now ∙ s.reads) ∙ ap (λ x. (s.target, record { table = 0; place = o }) ∷ unwrap_or x []) (sym next);
     }
-
--- behind the edges of the base nothing is left
-pub base-end : (l : Layout) (v level o left : ℕ) → level ≤ l.floor → left ≡ 0 → place_cells l v level o left ≡ []
-base-end l v level o left low none = ap (λ x. unwrap_or x []) (place-low l v level o left low) ∙ ap (λ k. unwrap_or (base_cells l.base o k) []) none
 
 -- behind a fragment above the floor
 after-at : (l : Layout) (v level o : ℕ) → l.floor < level → level ≤ l.floor + length l.levels → (let r = level - l.floor - 1 in place_row l v level o 0 ≡ after_fragment l.floor r (chain l v r) (slice_get (level_table l level).slots o))

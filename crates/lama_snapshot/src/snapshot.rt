@@ -271,6 +271,7 @@ impl Snapshot {
         ensures { MatchOption result (place_cells self.now.layout at.v at.level (at.offset + at.left) 0 ≡ []) (λ next.
             IsPlace self.now.layout (length self.now.rows) next.v next.level next.offset next.left
             × (next.level < at.level)
+            × (next.v ≡ at.v)
             × (place_cells self.now.layout next.v next.level next.offset next.left ≡ place_cells self.now.layout at.v at.level (at.offset + at.left) 0)) }
     {
         let base: &Base = &self.base;
@@ -292,7 +293,8 @@ impl Snapshot {
         ensures { OnOk result (cells.new.items ++ map (λ p. p.1) (standing self.now.columns (place_cells self.now.layout start.v start.level (start.offset + start.left) 0))
             ≡ cells.old.items ++ map (λ p. p.1) (standing self.now.columns (place_cells self.now.layout start.v start.level start.offset start.left))) }
     {
-        let table = self.table_of_level(start.level);
+        let base: &Base = &self.base;
+        let table = start.level.saturating_sub(base.number());
         let marks = &self.hidden[table as usize];
         let mut place = start.offset;
         let mut left = start.left;
@@ -304,19 +306,6 @@ impl Snapshot {
             left -= 1;
         }
         Ok(())
-    }
-
-    // The table of the level of that number: that of the base, which is 0, up to the floor.
-    #[inline(always)]
-    fn table_of_level(&self, level: u32) -> u32
-        ensures { result ≡ level - self.now.layout.floor }
-    {
-        let base: &Base = &self.base;
-        let floor = base.number();
-        if level <= floor {
-            return 0;
-        }
-        level - floor
     }
 
     // Where the row of `v` begins.
@@ -342,22 +331,39 @@ impl Snapshot {
             (place_cells self.now.layout found.1.v found.1.level found.1.offset found.1.left)) }
     {
         let base: &Base = &self.base;
-        let floor = base.number();
         let mut at = start;
-        while floor < at.level {
-            if at.left > 0 {
-                return Some(cell_at(at.level - floor, at));
-            }
-            let level = level_at(&self.levels, floor, at.level);
-            match level.edges.slot(at.offset) {
-                Slot::Next { level, offset, len } => at = place_of(base, at.v, level, offset, len),
-                _ => return None,
-            }
-        }
         if at.left == 0 {
-            return None;
+            at = self.next_fragment(at.v, at.level, at.offset);
+            if at.left == 0 {
+                return None;
+            }
         }
-        Some(cell_at(0, at))
+        Some(cell_at(at.level.saturating_sub(base.number()), at))
+    }
+
+    // The place that has an edge in its fragment, from one on at the end of its own, or one at the end of the row. It
+    // stands apart, so that a loop over edges has the registers for itself.
+    #[inline(never)]
+    fn next_fragment(&self, v: u32, level: u32, offset: u32) -> SnapshotAt
+        requires { IsPlace self.now.layout (length self.now.rows) v level offset 0 }
+        ensures place { IsPlace self.now.layout (length self.now.rows) result.v result.level result.offset result.left }
+        ensures v { result.v ≡ v }
+        ensures cells { place_cells self.now.layout result.v result.level result.offset result.left ≡ place_cells self.now.layout v level offset 0 }
+        ensures end { result.left ≡ 0 → place_cells self.now.layout v level offset 0 ≡ [] }
+    {
+        let mut at = SnapshotAt {
+            v,
+            level,
+            offset,
+            left: 0,
+        };
+        while at.left == 0 {
+            match self.behind(at) {
+                Some(next) => at = next,
+                None => return at,
+            }
+        }
+        at
     }
 
     // Whether the edge in the cell is not hidden.

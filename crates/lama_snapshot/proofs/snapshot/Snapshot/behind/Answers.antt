@@ -40,7 +40,7 @@ returns-in-Next c =
     let h = next-returns snap.layout (length snap.rows) (place_row snap.layout at.v at.level (at.offset + at.left) 0) at.v at.level (at.offset + at.left) 0 n.level n.offset n.len r.v r.level r.offset r.left behind refl above (omega arith)
     (ap (λ (x : Table). slice_get x.slots (at.offset + at.left)) (sym table) ∙ n.ensures) p.v (λ h. p.in_base (omega (arith, floor, b, h)) ∙ (sym b ∙ floor)) (λ h. p.in_level (omega (arith, floor, b, h)))
     (p.row snap.layout (sym floor ∙ b) (sym (ap (λ x. x.rows) c.deref-base.ensures ∙ ap (λ s. s.layout.base) c.self.view_is))) in
-    (h.1, h.0, ap (λ x. unwrap_or x []) h.2)
+    (h.1, h.0, p.v, ap (λ x. unwrap_or x []) h.2)
 
 pub returns-in_default : goal.returns-in_default
 returns-in_default c =

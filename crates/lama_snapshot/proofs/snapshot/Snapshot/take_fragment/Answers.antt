@@ -34,7 +34,7 @@ overflow_add-place c =
 
 pub loop-left-preserved : goal.loop-left-preserved
 loop-left-preserved c =
-    let snap = c.args.self.now in let at = c.args.start in let l = c.loop-left in let n = c.table_of_level-table.result in
+    let snap = c.args.self.now in let at = c.args.start in let l = c.loop-left in let n = c.saturating_sub-table.result in
     let columns : AreColumns snap.layout snap.columns = subst (λ (s : Snap). AreColumns s.layout s.columns) c.self.view_is c.self.invariant.columns in
     let tables : All IsTable snap.layout.levels = subst (λ (s : Snap). All IsTable s.layout.levels) c.self.view_is c.self.invariant.tables in
     let few : length (base_slots snap.layout.base) ≤ 67108864 = subst (λ (s : Snap). length (base_slots s.layout.base) ≤ 67108864) c.self.view_is c.self.invariant.base_slots in
