@@ -118,6 +118,7 @@ fn leading_number(text: &[u8]) -> Option<(u32, usize)>
     some_number(value, len)
 }
 
+/// The number that so many digits spelled, where the byte behind them is a blank.
 fn leading_end(byte: u8, value: u64, len: usize) -> Option<(u32, usize)>
     requires { value < 2 ^ 32 }
     ensures { MatchOption result ⊤ (λ found. (found.0 ≡ value) × (found.1 ≡ len) × (0 < len) × (grammar.is_blank byte ≡ true)) }
@@ -128,6 +129,7 @@ fn leading_end(byte: u8, value: u64, len: usize) -> Option<(u32, usize)>
     None
 }
 
+/// The number that so many digits spelled, and how many they are. No digits spell none.
 fn some_number(value: u64, len: usize) -> Option<(u32, usize)>
     requires { value < 2 ^ 32 }
     ensures { MatchOption result ⊤ (λ found. (found.0 ≡ value) × (found.1 ≡ len) × (0 < len)) }
