@@ -8,7 +8,7 @@ use Rattle.lama_edges.specs.declared.records.Slot.{Slot}
 use Rattle.lama_edges.specs.declared.records.Slot.TheVariants.{Edge, Next, End}
 use Rattle.lama_edges.specs.declared.tails.Tail.{Tail}
 use Rattle.lama_edges.specs.Table.{IsTail, HasEdge}
-use Rattle.lama_edges.specs.Placed.{slot_by, slot_of, slots_from, AreTails}
+use Rattle.lama_edges.specs.Placed.{slot_by, slot_of, slots_from, AreTails, AreNumbered}
 
 some_inj : {A : Type 0} {x y : A} → Some x ≡ Some y → x ≡ y
 some_inj {A = A} {x = x} e = ap (λ o. elim o as (λ _. A) [ None ↦ x | Some z ↦ z ]) e
@@ -126,3 +126,16 @@ module _ (n : ℕ) (ts : List Tail) (are : AreTails n ts) where
   target-read ws i w lt is edge =
       let same : slot_of ts i w ≡ Edge edge.target = some_inj (sym (slot-read ws i w lt is) ∙ edge.slot_is) in
       edge.slot_is ∙ ap (λ v. Some (Edge v)) (sym (target-by i w edge.target (slice_get ts w) refl same))
+
+-- the tail of a number stands at its place
+pub tail-there : (ts : List Tail) (ws : List ℕ) → AreNumbered ws ts → (k i : ℕ) (t : Tail) → slice_get ts k ≡ Some t → t.place ≡ i → slice_get (slots_from ts 0 ws) i ≡ Some t.slot
+tail-there ts ws numbered k i t got at =
+    let word : slice_get ws i ≡ Some k = subst (λ j. slice_get ws j ≡ Some k) at (numbered k t got) in
+    let within : i < length ws = slice_get_within ws i k word in
+    let is : get_or ws i 0 ≡ k = some_inj (sym (slice_get-get_or ws i 0 within) ∙ word) in
+    let here : 0 + i ≡ i = omega arith in
+    let same : (t.place == i) ≡ true = grind (arith, nat_tests, at) in
+    slot-at ts 0 i 0 ws within
+    ∙ (λ j. Some (slot_of ts (here j) (is j)))
+    ∙ ap (λ o. Some (slot_by i k o)) got
+    ∙ ap (λ (b : Bool). Some (if b then t.slot else Edge k)) same

@@ -1,5 +1,5 @@
 -- How an edge table holds its slots: a word for each, and beside the words the tails with their places.
-use Rattle.std.specs.Prelude.{ℕ, ◌+◌, ◌<◌, ◌≤◌, ◌==◌, List, [], ◌∷◌, All, Option, Some, None, length, slice_get, if◌then◌else◌}
+use Rattle.std.specs.Prelude.{◌≡◌, ℕ, ◌+◌, ◌<◌, ◌≤◌, ◌==◌, List, [], ◌∷◌, All, Option, Some, None, length, slice_get, if◌then◌else◌}
 use Rattle.lama_edges.specs.declared.records.Slot.{Slot}
 use Rattle.lama_edges.specs.declared.records.Slot.TheVariants.{Edge}
 use Rattle.lama_edges.specs.declared.tails.Tail.{Tail}
@@ -25,3 +25,7 @@ pub record AreTails (n : ℕ) (tails : List Tail) : Type 0 where
   pub kinds : All (λ t. IsTail t.slot) tails
   pub places : All (λ t. t.place < n) tails
   pub few : length tails ≤ n
+
+-- the word at the place of each tail is the tail's number
+abbrev pub AreNumbered : List ℕ → List Tail → Type 0
+AreNumbered words tails = (k : ℕ) (t : Tail) → slice_get tails k ≡ Some t → slice_get words t.place ≡ Some k

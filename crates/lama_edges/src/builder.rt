@@ -23,13 +23,13 @@ pub struct TableBuilder {
 impl Model for TableBuilder {
     ghost use Rattle.std.specs.Prelude.{◌≡◌, List, length};
     ghost use Rattle.lama_edges.specs.declared.records.Slot.{Slot};
-    ghost use Rattle.lama_edges.specs.Placed.{slots_from, AreTails};
+    ghost use Rattle.lama_edges.specs.Placed.{slots_from, AreNumbered, AreTails};
 
     ghost Value = { List Slot };
 
     ghost view = { λ builder. slots_from builder.tails.items 0 builder.words };
 
-    ghost invariant = { λ builder. (builder.len ≡ length builder.words) × AreTails (length builder.words) builder.tails.items };
+    ghost invariant = { λ builder. (builder.len ≡ length builder.words) × AreTails (length builder.words) builder.tails.items × AreNumbered builder.words builder.tails.items };
 }
 
 impl TableBuilder {
@@ -53,10 +53,11 @@ impl TableBuilder {
     {
         match slot {
             Slot::Edge { target } => self.push_edge(target, pages),
-            tail => self.push_tail(tail, pages),
+            tail => self.push_tail(tail, 0, pages),
         }
     }
 
+    // Adds an edge at the end.
     fn push_edge<L: Ledger>(&mut self, target: u32, pages: &mut Steps<L>) -> Result<(), AllocError>
         requires { length self.old < 67108864 }
         ensures items { self.new ≡ (if is_ok result then self.old ++ Edge target ∷ [] else self.old) }
@@ -67,7 +68,14 @@ impl TableBuilder {
         Ok(())
     }
 
-    fn push_tail<L: Ledger>(&mut self, slot: Slot, pages: &mut Steps<L>) -> Result<(), AllocError>
+    /// The same for a tail. Where it leads on to an older fragment, `next` says what number that one's tail has in its
+    /// table ([`EdgeTable::tail_number`]), so that a reader finds it at once; a wrong number does no harm.
+    pub fn push_tail<L: Ledger>(
+        &mut self,
+        slot: Slot,
+        next: u32,
+        pages: &mut Steps<L>,
+    ) -> Result<(), AllocError>
         requires room { length self.old < 67108864 }
         requires tail { IsTail slot }
         ensures items { self.new ≡ (if is_ok result then self.old ++ slot ∷ [] else self.old) }
@@ -78,6 +86,7 @@ impl TableBuilder {
         self.tails.push_reserved(Tail {
             place: self.len,
             slot,
+            next,
         });
         self.len += 1;
         Ok(())

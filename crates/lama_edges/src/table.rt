@@ -4,7 +4,7 @@ ghost use Rattle.lama_edges.specs.declared.records.Slot.TheVariants.{Edge};
 
 use crate::builder::TableBuilder;
 use crate::records::{Fragment, Slot};
-use crate::tails::{Tail, slot_of};
+use crate::tails::{Tail, next_of, slot_of};
 use lama_array::VArray;
 use lama_pages::Steps;
 use std::alloc::{AllocError, Global};
@@ -14,8 +14,8 @@ use std::sync::ledger::Ledger;
 /// The edge table of one level: fragments of adjacency lists, one after another. A contract sees it as the list of its
 /// slots.
 ///
-/// It never changes. It takes a page for each 256 slots, of four bytes for each, and beside them twenty for the tail
-/// of each fragment.
+/// It never changes. It takes a page for each 256 slots, of four bytes for each, and beside them 24 for the tail of
+/// each fragment.
 #[derive(Drop)]
 pub struct EdgeTable {
     // Of an edge its target, and of a tail its number in `tails`.
@@ -26,13 +26,13 @@ pub struct EdgeTable {
 impl Model for EdgeTable {
     ghost use Rattle.std.specs.Prelude.{List, length};
     ghost use Rattle.lama_edges.specs.declared.records.Slot.{Slot};
-    ghost use Rattle.lama_edges.specs.Placed.{slots_from, AreTails};
+    ghost use Rattle.lama_edges.specs.Placed.{slots_from, AreNumbered, AreTails};
 
     ghost Value = { List Slot };
 
     ghost view = { λ table. slots_from table.tails.items 0 table.words };
 
-    ghost invariant = { λ table. AreTails (length table.words) table.tails.items };
+    ghost invariant = { λ table. AreTails (length table.words) table.tails.items × AreNumbered table.words table.tails.items };
 }
 
 impl EdgeTable {
@@ -72,6 +72,26 @@ impl EdgeTable {
         ensures { slice_get self.now i ≡ Some result }
     {
         slot_of(&self.tails, i, self.words.get(i))
+    }
+
+    /// The tail at place `i`, counted from 0, where its number is `near`, and else the slot that is there; and what number
+    /// the tail is said to have to which that one leads. A right `near` saves a look at the slots. It takes no memory.
+    #[inline(always)]
+    pub fn tail(&self, i: u32, near: u32) -> (Slot, u32)
+        requires { i < length self.now }
+        ensures { slice_get self.now i ≡ Some result.0 }
+    {
+        if let Some(tail) = self.tails.get(near as usize) {
+            if tail.place == i {
+                return (tail.slot, tail.next);
+            }
+        }
+        (self.slot(i), next_of(&self.tails, self.tail_number(i)))
+    }
+
+    /// The number of the tail at place `i`, counted from 0, or anything where no tail is there. It takes no memory.
+    pub fn tail_number(&self, i: u32) -> u32 {
+        if i < self.len() { self.words.get(i) } else { 0 }
     }
 
     /// The target of the edge at place `i`, counted from 0, with no search. It takes no memory.

@@ -6,7 +6,7 @@ use Rattle.std.proofs.lemmas.Bool.Decides.{nat_tests}
 use Rattle.std.proofs.lemmas.List.{length-set, get_or-set_same, get_or-set_other}
 use Rattle.lama_marks.specs.Places.{is_place, AreMarked, value_after, AreWritten}
 
-is_place-push : (i : ℕ) (ps : List ℕ) (p : ℕ) → is_place i (ps ++ p ∷ []) ≡ cond (eqb p i) true (is_place i ps)
+pub is_place-push : (i : ℕ) (ps : List ℕ) (p : ℕ) → is_place i (ps ++ p ∷ []) ≡ cond (eqb p i) true (is_place i ps)
 is_place-push i [] p = by (eqb p i)
   where
     by : (b : Bool) → b || false ≡ cond b true false

@@ -4,6 +4,7 @@
 
 mod hidden;
 mod weights;
+mod wide;
 
 pub use hidden::Hidden;
-pub use weights::Weights;
+pub use weights::{Weights, WeightsBuilder};

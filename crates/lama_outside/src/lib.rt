@@ -1,7 +1,8 @@
 //! Sources and sinks: over memory with failing calls, over memory without, and over the standard
-//! streams of the process; and the gate that holds no thread.
+//! streams of the process; and gates, one that holds no thread and one at which two threads meet.
 #![tactic(auto)]
 
+mod meeting;
 mod mem;
 mod piece;
 mod standard;
@@ -9,6 +10,7 @@ mod sure;
 mod turns;
 
 use lama_base::Gate;
+pub use meeting::Meeting;
 pub use mem::{MemSink, MemSource};
 pub use standard::{StdSink, StdSource};
 pub use sure::{SureSink, SureSource};

@@ -9,7 +9,7 @@ ghost use Rattle.lama_snapshot.specs.Snap.{no_record};
 ghost use Rattle.lama_snapshot.specs.Written.{IsWithin, pages_for};
 ghost use Rattle.lama_snapshot.specs.NewLevel.{IsNewLevel};
 
-use crate::level::{Level, NO_RECORD, write_rows};
+use crate::level::{Level, NO_RECORD, Older, write_rows};
 use lama_array::VArray;
 use lama_delta::{Change, RowChange};
 use lama_edges::{EdgeTable, VertexRec};
@@ -33,6 +33,7 @@ pub(crate) struct NewLevel {
 pub(crate) fn write_level<L: Ledger>(
     alloc: Global,
     vertices: &VArray<VertexRec>,
+    older: Older<'_>,
     change: &Change,
     pages: &mut Steps<L>,
 ) -> Result<NewLevel, AllocError>
@@ -47,7 +48,7 @@ pub(crate) fn write_level<L: Ledger>(
     let rows = change.rows();
     let mut edit = vertices.edit()?;
     edit.extend_filled(change.count - vertices.len(), NO_RECORD, pages)?;
-    let writer = write_rows(alloc, &mut edit, change.number, rows, pages)?;
+    let writer = write_rows(alloc, &mut edit, older, change.number, rows, pages)?;
     let (added, killed) = edges_of(rows);
     let (edges, weights) = writer.finish()?;
     let vertices = edit.freeze()?;

@@ -74,7 +74,7 @@ impl Base {
         }
         let (edges, weights) = writer.finish()?;
         let vertices = vertices.finish()?;
-        let hidden = Hidden::standing(alloc, edges.len(), pages)?;
+        let hidden = Hidden::standing_above(alloc, edges.len(), number, pages)?;
         Ok(Base {
             number,
             vertices,

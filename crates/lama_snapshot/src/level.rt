@@ -25,14 +25,16 @@ pub(crate) struct Level {
     pub change: Arc<Change, Global>,
 }
 
-/// A place in a row of a [`crate::Snapshot`]: the vertex, the level of the fragment, where its next edge is, and how
-/// many edges of the fragment are left.
+/// A place in a row of a [`crate::Snapshot`]: the vertex, the level of the fragment, where its next edge is, how many
+/// edges of the fragment are left, and where its tail is looked for first.
 #[derive(Clone, Copy, Debug)]
 pub struct SnapshotAt {
     pub(crate) v: u32,
     pub(crate) level: u32,
     pub(crate) offset: u32,
     pub(crate) left: u32,
+    // What number the fragment's tail is said to have in its table.
+    pub(crate) tail: u32,
 }
 
 // Where a slot is: in the table of the base, which is 0, or in that of a level, counted from the base.
@@ -66,7 +68,15 @@ pub(crate) fn level_at(levels: &[Arc<Level, Global>], floor: u32, level: u32) ->
 }
 
 // Where the row goes on that such a record or continuation leads to: up to the floor it is the whole row in the base.
-pub(crate) fn place_of(base: &Base, v: u32, level: u32, offset: u32, len: u32) -> SnapshotAt
+#[inline(always)]
+pub(crate) fn place_of(
+    base: &Base,
+    v: u32,
+    level: u32,
+    offset: u32,
+    len: u32,
+    tail: u32,
+) -> SnapshotAt
     ensures v { result.v ≡ v }
     ensures in_base { level ≤ base.now.number → result.level ≡ base.now.number }
     ensures in_level { base.now.number < level → result.level ≡ level }
@@ -80,6 +90,7 @@ pub(crate) fn place_of(base: &Base, v: u32, level: u32, offset: u32, len: u32) -
             level,
             offset,
             left: len,
+            tail,
         };
     }
     if v < base.count() {
@@ -89,6 +100,7 @@ pub(crate) fn place_of(base: &Base, v: u32, level: u32, offset: u32, len: u32) -
             level: floor,
             offset: at.offset,
             left: at.left,
+            tail: 0,
         };
     }
     SnapshotAt {
@@ -96,6 +108,7 @@ pub(crate) fn place_of(base: &Base, v: u32, level: u32, offset: u32, len: u32) -
         level: floor,
         offset: 0,
         left: 0,
+        tail: 0,
     }
 }
 
@@ -121,14 +134,38 @@ pub(crate) fn cell_at(table: u32, at: SnapshotAt) -> (Cell, SnapshotAt)
             level: at.level,
             offset: at.offset + 1,
             left: at.left - 1,
+            tail: at.tail,
         },
     )
+}
+
+// The levels above the base of a snapshot, and the number of that base.
+#[derive(Clone, Copy)]
+pub(crate) struct Older<'a> {
+    pub levels: &'a [Arc<Level, Global>],
+    pub floor: u32,
+}
+
+impl Older<'_> {
+    // What number the tail of the fragment has in the table of its level, where it is in one.
+    fn tail_number(&self, fragment: VertexRec) -> u32 {
+        if fragment.level <= self.floor {
+            return 0;
+        }
+        match self.levels.get((fragment.level - self.floor - 1) as usize) {
+            Some(level) => level
+                .edges
+                .tail_number(fragment.offset.wrapping_add(fragment.len)),
+            None => 0,
+        }
+    }
 }
 
 // Writes the fragment of a row that changes, and gives its vertex the record of it.
 fn write_row<L: Ledger>(
     writer: &mut Writer,
     edit: &mut Edit<VertexRec>,
+    older: Older<'_>,
     number: u32,
     row: &RowChange,
     pages: &mut Steps<L>,
@@ -150,7 +187,7 @@ fn write_row<L: Ledger>(
         offset: old.offset,
         len: old.len,
     };
-    writer.fragment(&row.added, tail, pages)?;
+    writer.fragment(&row.added, tail, older.tail_number(old), pages)?;
     let added = row.added.len() as u32;
     let record = VertexRec {
         level: number,
@@ -165,6 +202,7 @@ fn write_row<L: Ledger>(
 pub(crate) fn write_rows<L: Ledger>(
     alloc: Global,
     edit: &mut Edit<VertexRec>,
+    older: Older<'_>,
     number: u32,
     rows: &[RowChange],
     pages: &mut Steps<L>,
@@ -181,7 +219,7 @@ pub(crate) fn write_rows<L: Ledger>(
 {
     let mut writer = Writer::new(alloc);
     for row in rows {
-        write_row(&mut writer, edit, number, row, pages)?;
+        write_row(&mut writer, edit, older, number, row, pages)?;
     }
     Ok(writer)
 }

@@ -15,7 +15,7 @@ ghost use Rattle.lama_snapshot.specs.Found.{cells_at, killed_slot, set_slot, kil
 use crate::apply::{NewLevel, edges_at_most, edges_of, push_level, write_level};
 use crate::base::Base;
 use crate::found::{FoundSlots, by_table, find_killed, find_set, hide_all, weigh_all};
-use crate::level::{Cell, Level, SnapshotAt, cell_at, level_at, place_of};
+use crate::level::{Cell, Level, Older, SnapshotAt, cell_at, level_at, place_of};
 use lama_array::VArray;
 use lama_base::limits::{MAX_EDGES, MAX_NUMBER, MAX_VERTICES};
 use lama_delta::{Change, RowChange};
@@ -141,8 +141,8 @@ impl Snapshot {
             weights,
             added,
             killed,
-        } = write_level(alloc, &self.vertices, wanted, pages)?;
-        hidden.push(Hidden::standing(alloc, edges.len(), pages)?)?;
+        } = write_level(alloc, &self.vertices, self.older(), wanted, pages)?;
+        hidden.push(Hidden::standing_above(alloc, edges.len(), number, pages)?)?;
         marked.push(weights)?;
         let level = Level { edges, change };
         let levels = push_level(alloc, &self.levels, Arc::new(alloc, level)?)?;
@@ -155,6 +155,15 @@ impl Snapshot {
             hidden,
             weights: marked,
         })
+    }
+
+    // Its levels, which are older than the next one.
+    fn older(&self) -> Older<'_> {
+        let base: &Base = &self.base;
+        Older {
+            levels: &self.levels,
+            floor: base.number(),
+        }
     }
 
     // The marks of each table, with that number where an edge goes, and the weights, with the new ones where an edge
@@ -280,8 +289,11 @@ impl Snapshot {
             return None;
         }
         let level = level_at(&self.levels, floor, at.level);
-        match level.edges.slot(at.offset + at.left) {
-            Slot::Next { level, offset, len } => Some(place_of(base, at.v, level, offset, len)),
+        let (slot, next) = level.edges.tail(at.offset + at.left, at.tail);
+        match slot {
+            Slot::Next { level, offset, len } => Some(place_of(
+                base, at.v, level, offset, len, next,
+            )),
             _ => None,
         }
     }
@@ -299,7 +311,7 @@ impl Snapshot {
         let mut place = start.offset;
         let mut left = start.left;
         while left > 0 {
-            if marks.hidden_at(place) == 0 {
+            if marks.stands(place) {
                 cells.push(Cell { table, place })?;
             }
             place += 1;
@@ -316,7 +328,7 @@ impl Snapshot {
         ensures row { visible self.now.columns (slice_index_or self.now.cells v []) ≡ row_at self.now.rows v }
     {
         let record = self.vertices.get(v);
-        place_of(&self.base, v, record.level, record.offset, record.len)
+        place_of(&self.base, v, record.level, record.offset, record.len, 0)
     }
 
     // The cell of the next edge from a place on, hidden or not, and the place behind it. Inside a fragment no slot is read.
@@ -333,7 +345,7 @@ impl Snapshot {
         let base: &Base = &self.base;
         let mut at = start;
         if at.left == 0 {
-            at = self.next_fragment(at.v, at.level, at.offset);
+            at = self.next_fragment(at.v, at.level, at.offset, at.tail);
             if at.left == 0 {
                 return None;
             }
@@ -344,7 +356,7 @@ impl Snapshot {
     // The place that has an edge in its fragment, from one on at the end of its own, or one at the end of the row. It
     // stands apart, so that a loop over edges has the registers for itself.
     #[inline(never)]
-    fn next_fragment(&self, v: u32, level: u32, offset: u32) -> SnapshotAt
+    fn next_fragment(&self, v: u32, level: u32, offset: u32, tail: u32) -> SnapshotAt
         requires { IsPlace self.now.layout (length self.now.rows) v level offset 0 }
         ensures place { IsPlace self.now.layout (length self.now.rows) result.v result.level result.offset result.left }
         ensures v { result.v ≡ v }
@@ -356,6 +368,7 @@ impl Snapshot {
             level,
             offset,
             left: 0,
+            tail,
         };
         while at.left == 0 {
             match self.behind(at) {
@@ -372,7 +385,7 @@ impl Snapshot {
         requires { IsCell self.now.columns cell }
         ensures { (t : ℕ) → result ≡ stands self.now.columns (t, cell) }
     {
-        self.hidden[cell.table as usize].hidden_at(cell.place) == 0
+        self.hidden[cell.table as usize].stands(cell.place)
     }
 
     // The cell of the next edge that stands, from a place on, and the place behind it.

@@ -1,12 +1,12 @@
 // Fragments written one after another into the tables of a base or a level.
 ghost use Rattle.std.specs.Prelude.{◌≡◌, ◌+◌, ◌*◌, ◌/◌, ◌<◌, ◌≤◌, ◌++◌, [], ◌∷◌, ℕ, List, IfOk, OnOk, length};
+ghost use Rattle.lama_edges.specs.Table.{IsTail};
 ghost use Rattle.lama_edges.specs.declared.records.Slot.TheVariants.{End};
 ghost use Rattle.lama_model.specs.Row.{row_at};
 ghost use Rattle.lama_snapshot.specs.Fragments.{fragment_slots, fragment_weights};
 
-use lama_array::Builder;
 use lama_edges::{EdgeTable, Slot, TableBuilder};
-use lama_marks::Weights;
+use lama_marks::{Weights, WeightsBuilder};
 use lama_model::Rows;
 use lama_pages::Steps;
 use std::alloc::{AllocError, Global};
@@ -16,7 +16,7 @@ use std::sync::ledger::Ledger;
 #[derive(Drop)]
 pub(crate) struct Writer {
     pub slots: TableBuilder,
-    pub weights: Builder<u64>,
+    pub weights: WeightsBuilder,
     // How many of each there are.
     pub len: u32,
 }
@@ -32,7 +32,7 @@ impl Writer {
     {
         Writer {
             slots: TableBuilder::new(alloc),
-            weights: Builder::new(alloc),
+            weights: WeightsBuilder::new(alloc),
             len: 0,
         }
     }
@@ -56,15 +56,37 @@ impl Writer {
         Ok(())
     }
 
-    // Writes the edges, newest first, and then the tail.
+    // Writes a tail, and what is said of the number of the next one.
+    fn put_tail<L: Ledger>(
+        &mut self,
+        tail: Slot,
+        next: u32,
+        pages: &mut Steps<L>,
+    ) -> Result<(), AllocError>
+        requires even { IsEven self.old }
+        requires room { length self.old.slots < 67108864 }
+        requires tail { IsTail tail }
+        ensures ok { OnOk result (Wrote self.old self.new (tail ∷ []) (0 ∷ [])) }
+        ensures made { OnOk result (pages.new + 2 * ((length self.old.slots + 255) / 256) ≡ pages.old + 2 * ((length self.old.slots + 256) / 256)) }
+        ensures at_most { pages.new + 2 * ((length self.old.slots + 255) / 256) ≤ pages.old + 2 * ((length self.old.slots + 256) / 256) }
+    {
+        self.slots.push_tail(tail, next, pages)?;
+        self.weights.push(0, pages)?;
+        self.len += 1;
+        Ok(())
+    }
+
+    // Writes the edges, newest first, and then the tail, with what is said of the number of the next one.
     pub(crate) fn fragment<L: Ledger>(
         &mut self,
         edges: &[(u32, u64)],
         tail: Slot,
+        next: u32,
         pages: &mut Steps<L>,
     ) -> Result<(), AllocError>
         requires even { IsEven self.old }
         requires room { length self.old.slots + length edges.now < 67108864 }
+        requires tail { IsTail tail }
         ensures ok { OnOk result (Wrote self.old self.new (fragment_slots edges.now tail) (fragment_weights edges.now)) }
         ensures made { OnOk result (pages.new + 2 * ((length self.old.slots + 255) / 256) ≡ pages.old + 2 * ((length self.old.slots + length edges.now + 256) / 256)) }
         ensures at_most { pages.new + 2 * ((length self.old.slots + 255) / 256) ≤ pages.old + 2 * ((length self.old.slots + length edges.now + 256) / 256) }
@@ -72,7 +94,7 @@ impl Writer {
         for &(target, weight) in edges {
             self.put(Slot::Edge { target }, weight, pages)?;
         }
-        self.put(tail, 0, pages)
+        self.put_tail(tail, next, pages)
     }
 
     // Writes the row of a vertex, and says how many edges it has.
@@ -111,6 +133,6 @@ impl Writer {
             weights,
             len: _,
         } = self;
-        Ok((slots.finish()?, Weights::from_column(weights.finish()?)))
+        Ok((slots.finish()?, weights.finish()?))
     }
 }

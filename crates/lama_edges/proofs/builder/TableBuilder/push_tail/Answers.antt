@@ -15,7 +15,7 @@ pub returns-clause-items : goal.returns-clause-items
 returns-clause-items g c =
     let tails = c.self.inside.tails.items in
     let words = c.self.inside.words in
-    let tail : Tail = record { place = c.self.inside.len; slot = c.args.slot } in
+    let tail : Tail = record { place = c.self.inside.len; slot = c.args.slot; next = c.args.next } in
     let new_tails : c.push_reserved.new.self.items ≡ tails ++ tail ∷ [] = c.push_reserved.ensures.items ∙ ap (λ l. l ++ tail ∷ []) c.in_ok-reserve.ensures.items in
     let number : c.len.result ≡ length tails = c.len.ensures ∙ c.reserve.new.self.ok.0 ∙ ap length c.in_ok-reserve.ensures.items in
     ap (λ ts. slots_from ts 0 c.push.new.self) new_tails

@@ -16,4 +16,4 @@ returns c =
     let edge = subst (λ l. HasEdge l c.args.i) (sym c.self.view_is) c.requires in
     let within : c.args.i < length c.self.inside.words = omega (arith, slice_get_within c.args.self.now c.args.i (Edge c.requires.target) c.requires.slot_is, length-slots tails 0 c.self.inside.words, ap length c.self.view_is) in
     subst (λ l. slice_get l c.args.i ≡ Some (Edge c.get.result)) c.self.view_is
-    (target-read (length c.self.inside.words) tails c.self.invariant c.self.inside.words c.args.i c.get.result within c.get.ensures edge)
+    (target-read (length c.self.inside.words) tails c.self.invariant.0 c.self.inside.words c.args.i c.get.result within c.get.ensures edge)

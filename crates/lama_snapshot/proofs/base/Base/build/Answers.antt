@@ -106,7 +106,7 @@ returns-in_err-hidden-clause-made g c =
     let rows = g.R.Rows.rows c.args.rows.now in
     let n = c.count-count.ensures.count in let t = c.loop-v-test.false in let e = c.loop-v.auto.v-end in
     let is : c.loop-v.v ≡ length rows = omega (arith, n, t, e) in
-    pages-marked c.loop-v.pages c.standing.new.pages c.args.pages.now (length c.loop-v.writer.slots) (length rows) (edges_in rows) c.standing.ensures.made
+    pages-marked c.loop-v.pages c.standing_above.new.pages c.args.pages.now (length c.loop-v.writer.slots) (length rows) (edges_in rows) c.standing_above.ensures.made
     (c.loop-v.invariant.made ∙ ap (λ k. c.args.pages.now + 2 * ((length c.loop-v.writer.slots + 255) / 256) + (k + 255) / 256) is)
     (slots-at-most c.loop-v.writer.slots rows c.loop-v.v c.loop-v.invariant.slots)
 
@@ -115,6 +115,6 @@ returns-clause-made g c =
     let rows = g.R.Rows.rows c.args.rows.now in
     let n = c.count-count.ensures.count in let t = c.loop-v-test.false in let e = c.loop-v.auto.v-end in
     let is : c.loop-v.v ≡ length rows = omega (arith, n, t, e) in
-    pages-marked c.loop-v.pages c.standing.new.pages c.args.pages.now (length c.loop-v.writer.slots) (length rows) (edges_in rows) c.standing.ensures.made
+    pages-marked c.loop-v.pages c.standing_above.new.pages c.args.pages.now (length c.loop-v.writer.slots) (length rows) (edges_in rows) c.standing_above.ensures.made
     (c.loop-v.invariant.made ∙ ap (λ k. c.args.pages.now + 2 * ((length c.loop-v.writer.slots + 255) / 256) + (k + 255) / 256) is)
     (slots-at-most c.loop-v.writer.slots rows c.loop-v.v c.loop-v.invariant.slots)

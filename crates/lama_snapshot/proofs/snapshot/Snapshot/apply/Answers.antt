@@ -67,7 +67,7 @@ columns-here g c =
     let Q : Snap × List RowChange → Type 0 = λ p. AreSet (set_slots p.0 p.1) p.0.columns.weights c.in_ok-hidden.marked.items in
     record {
       hidden = c.in_ok-hidden.hidden.items;
-      marks = c.in_ok-push.ensures.items ∙ ap (λ x. c.in_ok-hidden.hidden.items ++ x ∷ []) (c.in_ok-standing.ensures.marks ∙ ap (λ k. replicate k 0) c.len.ensures);
+      marks = c.in_ok-push.ensures.items ∙ ap (λ x. c.in_ok-hidden.hidden.items ++ x ∷ []) (c.in_ok-standing_above.ensures.marks ∙ ap (λ k. replicate k 0) c.len.ensures);
       are_hidden = subst P (λ j. (sym c.self.view_is j, rows j, n j)) c.in_ok-hidden.ensures.marks;
       weighed = c.in_ok-hidden.marked.items;
       weights_are = c.in_ok-push-2.ensures.items ∙ ap (λ x. c.in_ok-hidden.marked.items ++ x ∷ []) refl;

@@ -10,10 +10,10 @@ use Rattle.lama_snapshot.specs.Chains.{AreColumns, place_cells}
 use Rattle.lama_snapshot.specs.Snap.{Snap, IsTable}
 use Rattle.lama_snapshot.proofs.Fragment.{fragment-step, take-step, pass-step}
 use Rattle.lama_snapshot.proofs.snapshot.Snapshot.take_fragment.Goals as goal
-use Rattle.lama_snapshot.proofs.snapshot.Snapshot.take_fragment.Goals.{then-hidden_at-eq0+in_ok-push, else-hidden_at-eq0}
+use Rattle.lama_snapshot.proofs.snapshot.Snapshot.take_fragment.Goals.{then-stands+in_ok-push, else-stands}
 
-pub hidden_at-requires : goal.hidden_at-requires
-hidden_at-requires c =
+pub stands-requires : goal.stands-requires
+stands-requires c =
     let snap = c.args.self.now in let at = c.args.start in let l = c.loop-left in
     let columns : AreColumns snap.layout snap.columns = subst (λ (s : Snap). AreColumns s.layout s.columns) c.self.view_is c.self.invariant.columns in
     let tables : All IsTable snap.layout.levels = subst (λ (s : Snap). All IsTable s.layout.levels) c.self.view_is c.self.invariant.tables in
@@ -41,14 +41,14 @@ loop-left-preserved c =
     let step = fragment-step snap.layout snap.columns (length snap.rows) at.v at.level l.place l.left columns tables few l.invariant.place c.loop-left-test.true in
     let e = l.invariant.end in let some = c.loop-left-test.true in
     let same = l.invariant.marks ∙ ap (λ k. get_or snap.columns.marks k []) l.invariant.table in
-    let mark : mark_at snap.columns (record { table = at.level - snap.layout.floor; place = l.place }) ≡ c.hidden_at.result = sym (c.hidden_at.ensures ∙ ap (λ xs. slice_index xs l.place) same) in
+    let sees : c.stands.result ≡ eqb (mark_at snap.columns (record { table = at.level - snap.layout.floor; place = l.place })) 0 = c.stands.ensures ∙ ap (λ xs. eqb (slice_index xs l.place) 0) same in
     let cell : record { table = n; place = l.place } ≡ record { table = at.level - snap.layout.floor; place = l.place } = λ j. record { table = l.invariant.table j; place = l.place } in
     let row = place_cells snap.layout at.v at.level l.place l.left in let rest = place_cells snap.layout at.v at.level (l.place + 1) (l.left - 1) in
     let whole = c.args.cells.now.items ++ map (λ p. p.1) (standing snap.columns (place_cells snap.layout at.v at.level at.offset at.left)) in
-    let so_far : c.if-hidden_at-eq0.cells.items ++ map (λ p. p.1) (standing snap.columns rest) ≡ whole = elim c.if-hidden_at-eq0.branch [
-      | then-hidden_at-eq0+in_ok-push w ↦ take-step snap.columns l.cells.items c.if-hidden_at-eq0.cells.items whole row (step.target, record { table = at.level - snap.layout.floor; place = l.place }) rest step.reads l.invariant.so_far
-          (ap (λ k. eqb k 0) (mark ∙ w.if-hidden_at-eq0.true)) (ap (λ (x : Vec Cell Global). x.items) w.cells-is ∙ (w.in_ok-push.ensures.items ∙ ap (λ k. l.cells.items ++ k ∷ []) cell))
-      | else-hidden_at-eq0 w ↦ pass-step snap.columns l.cells.items c.if-hidden_at-eq0.cells.items whole row (step.target, record { table = at.level - snap.layout.floor; place = l.place }) rest step.reads l.invariant.so_far
-          (let f = w.if-hidden_at-eq0.false in grind (arith, nat_tests, mark, f)) (ap (λ (x : Vec Cell Global). x.items) w.cells-is)
+    let so_far : c.if-stands.cells.items ++ map (λ p. p.1) (standing snap.columns rest) ≡ whole = elim c.if-stands.branch [
+      | then-stands+in_ok-push w ↦ take-step snap.columns l.cells.items c.if-stands.cells.items whole row (step.target, record { table = at.level - snap.layout.floor; place = l.place }) rest step.reads l.invariant.so_far
+          (sym sees ∙ w.if-stands.true) (ap (λ (x : Vec Cell Global). x.items) w.cells-is ∙ (w.in_ok-push.ensures.items ∙ ap (λ k. l.cells.items ++ k ∷ []) cell))
+      | else-stands w ↦ pass-step snap.columns l.cells.items c.if-stands.cells.items whole row (step.target, record { table = at.level - snap.layout.floor; place = l.place }) rest step.reads l.invariant.so_far
+          (sym sees ∙ w.if-stands.false) (ap (λ (x : Vec Cell Global). x.items) w.cells-is)
     ] in
     record { place = step.rest; end = omega (arith, e, some); table = l.invariant.table; marks = l.invariant.marks; so_far = so_far }

@@ -1,9 +1,9 @@
 use Rattle.std.proofs.Common.{◌≤◌, ◌+◌, take}
-use Rattle.lama_marks.specs.Places.{AreWritten}
-use Rattle.lama_marks.proofs.weights.Weights.with.Given as goal
+use Rattle.lama_marks.specs.Places.{AreMarked}
+use Rattle.lama_marks.proofs.hidden.with_word.Given as goal
 
 abbrev pub invariant-loop-place : goal.invariant-loop-place
 invariant-loop-place g l = record {
-  written : AreWritten (take l.place-index l.places) l.initial.weights.items l.weights.items;
+  marked : AreMarked (take l.place-index l.places) l.word l.initial.edit.items l.edit.items;
   made : l.pages ≤ l.initial.pages + l.place-index;
 }
