@@ -29,9 +29,11 @@ impl Meeting {
         }
     }
 
-    /// Whether a piece waited in vain.
-    pub fn gave_up(&self) -> bool {
-        self.gave_up.load(Ordering::SeqCst)
+    /// Whether both pieces have come, and none waited in vain.
+    pub fn met(&self) -> bool {
+        let came = self.first_came.load(Ordering::SeqCst)
+            && self.second_came.load(Ordering::SeqCst);
+        came && !self.gave_up.load(Ordering::SeqCst)
     }
 
     // Holds a piece until the other one has come.

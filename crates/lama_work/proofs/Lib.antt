@@ -1,1 +1,2 @@
 pub mod OfPieces
+pub mod Cover

@@ -100,6 +100,6 @@ fn two_pieces_are_done_beside_each_other(rt: HostRuntime) -> Result<(), Fail> {
     )?;
     let halves = vec![in rt.alloc(); (0, 5), (5, 10)]?;
     assert_eq!(rt; pieces, halves);
-    assert!(rt; !meeting.gave_up());
+    assert!(rt; meeting.met());
     Ok(())
 }

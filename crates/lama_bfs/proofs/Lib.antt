@@ -1,0 +1,3 @@
+pub mod LevelLaw
+pub mod Marks
+pub mod Rounds

@@ -1,0 +1,15 @@
+use Rattle.std.proofs.Common.{◌≡◌, ◌++◌, length, map}
+use Rattle.std.specs.Prelude.{filter}
+use Rattle.lama_model.specs.Row.{row_at}
+use Rattle.lama_bfs.specs.Frontier.{is_new}
+use Rattle.lama_bfs.proofs.frontier.push_new.Given as goal
+
+abbrev pub invariant-loop-target : goal.invariant-loop-target
+invariant-loop-target g l = record {
+  place : g.R.Rows.is_place l.rows l.at;
+  found : l.found.items ++ filter (is_new l.levels) (map (λ p. p.0) (g.R.Rows.suffix l.rows l.at))
+      ≡ l.initial.found.items ++ filter (is_new l.levels) (map (λ p. p.0) (row_at (g.R.Rows.rows l.rows) l.u));
+}
+
+abbrev pub decreases-loop-target : goal.decreases-loop-target
+decreases-loop-target g l = length (g.R.Rows.suffix l.rows l.at)

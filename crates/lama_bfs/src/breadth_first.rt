@@ -1,0 +1,51 @@
+//! Levels, found from frontier to frontier.
+
+ghost use Rattle.std.specs.Prelude.{◌≡◌, ◌<◌, ◌≤◌, IfOk, OnOk, length};
+ghost use Rattle.lama_model.specs.Row.{AreTargetsBelow, graph_of_rows};
+ghost use Rattle.lama_bfs.specs.Levels.{levels};
+ghost use Rattle.lama_bfs.specs.Frontier.{targets_of, AreMarked};
+
+use crate::frontier::Search;
+use lama_base::Gate;
+use lama_model::Rows;
+use std::alloc::{AllocError, Global};
+use std::thread::Threads;
+
+/// The level of each vertex from `source`, by its number: the least number of edges of a walk to it, and None where no
+/// walk leads to it. The source itself has level 0.
+///
+/// Breadth-first search: from one frontier, the vertices of a level, to the next. Each vertex is marked when it is found,
+/// so the time is by the vertices and the edges that are reached. A large frontier is cut into a piece for each worker,
+/// and a piece reaches the gate before its work; a small one, and every one where there is one worker, is expanded by the
+/// caller. The only error is want of memory.
+pub fn levels<T: Threads + Sync, R: Rows + Sync, G: Gate + Sync>(
+    rt: &T,
+    alloc: Global,
+    rows: &R,
+    source: u32,
+    workers: u32,
+    gate: &G,
+) -> Result<Vec<Option<u32>>, AllocError>
+where
+    R::At: Send,
+    requires source { source < length (R.rows rows.now) }
+    requires vertices { length (R.rows rows.now) ≤ 4194304 }
+    requires some { 1 ≤ workers }
+    requires few { workers ≤ 16 }
+    ensures { IfOk result (λ v. v.items ≡ levels (graph_of_rows (R.rows rows.now)) source) }
+{
+    let count = rows.count();
+    let mut levels = vec![in alloc; None; count as usize]?;
+    levels[source as usize] = Some(0);
+    let mut search = Search {
+        levels,
+        next: vec![in alloc; source]?,
+    };
+    let mut level = 0;
+    while !search.next.is_empty() {
+        level += 1;
+        search.next_level(rt, alloc, rows, level, workers, gate)?;
+    }
+    let Search { levels, next: _ } = search;
+    Ok(levels)
+}

@@ -1,0 +1,11 @@
+//! Breadth-first levels of a graph's vertices.
+#![tactic(auto)]
+
+mod breadth_first;
+mod frontier;
+pub mod laws;
+
+pub use breadth_first::levels;
+
+#[cfg(test)]
+mod tests;
