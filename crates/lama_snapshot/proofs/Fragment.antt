@@ -10,7 +10,9 @@ use Rattle.lama_snapshot.specs.declared.level.SnapshotAt.{SnapshotAt}
 use Rattle.lama_snapshot.specs.BaseRows.{base_slots}
 use Rattle.lama_snapshot.specs.Cells.{Columns, standing, stands}
 use Rattle.lama_snapshot.specs.Chains.{no_table, Layout, place_row, place_cells, IsPlace, AreColumns, slot_at, IsAtCell}
-use Rattle.lama_snapshot.specs.Snap.{IsTable, IsCell}
+use Rattle.lama_snapshot.specs.Snap.{Snap, IsTable, IsCell}
+use Rattle.lama_snapshot.specs.Shown.{shown, IsShown}
+use Rattle.lama_snapshot.specs.declared.snapshot.Snapshot.TheInside.{Inside}
 use Rattle.lama_snapshot.proofs.StepLemmas.{level_table, edge-step, base-step}
 use Rattle.lama_snapshot.proofs.NextLemmas.{cell-above, cell-below, slots-above}
 use Rattle.lama_snapshot.proofs.Walks.{first-stands, first-hidden}
@@ -63,6 +65,15 @@ place-behind l count v level o (suc left) place =
     by : (l.floor < level) ⊎ (level ≤ l.floor) → IsSome (place_row l v level (o + 1) left)
     by (inl above) = subst (λ k. IsSome (place_row l v level (o + 1) k)) (omega arith) (edge-step l v level o (suc left) above place.within (omega arith) place.some).some
     by (inr low) = subst (λ k. IsSome (place_row l v level (o + 1) k)) (omega arith) (base-step l v level o (suc left) low (omega arith) place.some).some
+
+-- what stands at a place of a snapshot that has an edge left in its fragment
+pub place-step : (s : Inside) (snap : Snap) → shown s ≡ snap → IsShown s → (v level offset left : ℕ) → IsPlace snap.layout (length snap.rows) v level offset left → 0 < left
+    → FragmentStep snap.layout snap.columns (length snap.rows) v level offset left
+place-step s snap is inv v level offset left place some = fragment-step snap.layout snap.columns (length snap.rows) v level offset left
+    (subst (λ (x : Snap). AreColumns x.layout x.columns) is inv.columns)
+    (subst (λ (x : Snap). All IsTable x.layout.levels) is inv.tables)
+    (subst (λ (x : Snap). length (base_slots x.layout.base) ≤ 67108864) is inv.base_slots)
+    place some
 
 -- the cell of an edge that stands is put behind the others
 pub take-step : (cols : Columns) (so so' whole : List Cell) (xs : List (ℕ × Cell)) (p : ℕ × Cell) (rest : List (ℕ × Cell)) → xs ≡ p ∷ rest → so ++ map (λ p. p.1) (standing cols xs) ≡ whole → stands cols p ≡ true → so' ≡ so ++ p.1 ∷ [] →

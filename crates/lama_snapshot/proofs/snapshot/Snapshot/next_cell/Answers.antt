@@ -1,11 +1,8 @@
-use Rattle.std.proofs.Common.{◌∙◌, ◌-◌, ◌≤◌, length, ap, sym, subst, refl, arith}
-use Rattle.std.specs.Prelude.{All}
+use Rattle.std.proofs.Common.{◌∙◌, ◌-◌, length, ap, sym, subst, refl, arith}
 use Rattle.lama_snapshot.specs.declared.level.SnapshotAt.{SnapshotAt}
-use Rattle.lama_snapshot.specs.BaseRows.{base_slots}
-use Rattle.lama_snapshot.specs.Chains.{AreColumns, place_cells}
-use Rattle.lama_snapshot.specs.Snap.{Snap, IsTable}
+use Rattle.lama_snapshot.specs.Chains.{place_cells}
 use Rattle.lama_snapshot.proofs.NextLemmas.{floor-is}
-use Rattle.lama_snapshot.proofs.Fragment.{StandsAt, FragmentStep, fragment-step, fragment-returns}
+use Rattle.lama_snapshot.proofs.Fragment.{StandsAt, FragmentStep, place-step, fragment-returns}
 use Rattle.lama_snapshot.proofs.snapshot.Snapshot.next_cell.Goals as goal
 use Rattle.lama_snapshot.proofs.snapshot.Snapshot.next_cell.Goals.{then-at-eq0+else-at-eq0-2, else-at-eq0}
 
@@ -23,10 +20,7 @@ stands-at c =
 step-at : (c : goal.After-saturating_sub) → (let snap = c.args.self.now in let at = c.if-at-eq0.at in FragmentStep snap.layout snap.columns (length snap.rows) at.v at.level at.offset at.left)
 step-at c =
     let snap = c.args.self.now in let at = c.if-at-eq0.at in let h = stands-at c in
-    let columns : AreColumns snap.layout snap.columns = subst (λ (s : Snap). AreColumns s.layout s.columns) c.self.view_is c.self.invariant.columns in
-    let tables : All IsTable snap.layout.levels = subst (λ (s : Snap). All IsTable s.layout.levels) c.self.view_is c.self.invariant.tables in
-    let few : length (base_slots snap.layout.base) ≤ 67108864 = subst (λ (s : Snap). length (base_slots s.layout.base) ≤ 67108864) c.self.view_is c.self.invariant.base_slots in
-    fragment-step snap.layout snap.columns (length snap.rows) at.v at.level at.offset at.left columns tables few h.place h.some
+    place-step c.self.inside snap c.self.view_is c.self.invariant at.v at.level at.offset at.left h.place h.some
 
 pub cell_at-requires-clause-few : goal.cell_at-requires-clause-few
 cell_at-requires-clause-few c = (step-at c).few

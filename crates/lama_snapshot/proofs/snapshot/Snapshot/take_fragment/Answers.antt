@@ -1,44 +1,32 @@
-use Rattle.std.proofs.Common.{◌≡◌, ◌∙◌, ◌+◌, ◌-◌, ◌<◌, ◌≤◌, List, ◌∷◌, ◌++◌, length, get_or, map, [], ap, sym, subst, arith, ℕ, eqb}
-use Rattle.std.specs.Prelude.{All, slice_index}
+use Rattle.std.proofs.Common.{◌≡◌, ◌∙◌, ◌+◌, ◌-◌, ◌<◌, List, ◌∷◌, ◌++◌, length, get_or, map, [], ap, sym, subst, arith, ℕ, eqb}
+use Rattle.std.specs.Prelude.{slice_index}
 use Rattle.std.specs.declared.vec.Vec.{Vec}
 use Rattle.std.specs.declared.alloc.Global.{Global}
-use Rattle.std.proofs.lemmas.Bool.Decides.{nat_tests}
 use Rattle.lama_snapshot.specs.declared.level.Cell.{Cell}
-use Rattle.lama_snapshot.specs.BaseRows.{base_slots}
 use Rattle.lama_snapshot.specs.Cells.{standing, mark_at}
-use Rattle.lama_snapshot.specs.Chains.{AreColumns, place_cells}
-use Rattle.lama_snapshot.specs.Snap.{Snap, IsTable}
-use Rattle.lama_snapshot.proofs.Fragment.{fragment-step, take-step, pass-step}
+use Rattle.lama_snapshot.specs.Chains.{place_cells}
+use Rattle.lama_snapshot.proofs.Fragment.{place-step, take-step, pass-step}
 use Rattle.lama_snapshot.proofs.snapshot.Snapshot.take_fragment.Goals as goal
 use Rattle.lama_snapshot.proofs.snapshot.Snapshot.take_fragment.Goals.{then-stands+in_ok-push, else-stands}
 
 pub stands-requires : goal.stands-requires
 stands-requires c =
     let snap = c.args.self.now in let at = c.args.start in let l = c.loop-left in
-    let columns : AreColumns snap.layout snap.columns = subst (λ (s : Snap). AreColumns s.layout s.columns) c.self.view_is c.self.invariant.columns in
-    let tables : All IsTable snap.layout.levels = subst (λ (s : Snap). All IsTable s.layout.levels) c.self.view_is c.self.invariant.tables in
-    let few : length (base_slots snap.layout.base) ≤ 67108864 = subst (λ (s : Snap). length (base_slots s.layout.base) ≤ 67108864) c.self.view_is c.self.invariant.base_slots in
-    let step = fragment-step snap.layout snap.columns (length snap.rows) at.v at.level l.place l.left columns tables few l.invariant.place c.loop-left-test.true in
+    let step = place-step c.self.inside snap c.self.view_is c.self.invariant at.v at.level l.place l.left l.invariant.place c.loop-left-test.true in
     let same = l.invariant.marks ∙ ap (λ k. get_or snap.columns.marks k []) l.invariant.table in
     subst (λ (xs : List ℕ). l.place < length xs) (sym same) step.cell.mark
 
 pub overflow_add-place : goal.overflow_add-place
 overflow_add-place c =
     let snap = c.args.self.now in let at = c.args.start in let l = c.loop-left in
-    let columns : AreColumns snap.layout snap.columns = subst (λ (s : Snap). AreColumns s.layout s.columns) c.self.view_is c.self.invariant.columns in
-    let tables : All IsTable snap.layout.levels = subst (λ (s : Snap). All IsTable s.layout.levels) c.self.view_is c.self.invariant.tables in
-    let few : length (base_slots snap.layout.base) ≤ 67108864 = subst (λ (s : Snap). length (base_slots s.layout.base) ≤ 67108864) c.self.view_is c.self.invariant.base_slots in
-    let step = fragment-step snap.layout snap.columns (length snap.rows) at.v at.level l.place l.left columns tables few l.invariant.place c.loop-left-test.true in
+    let step = place-step c.self.inside snap c.self.view_is c.self.invariant at.v at.level l.place l.left l.invariant.place c.loop-left-test.true in
     let n = step.few in
     omega (arith, n)
 
 pub loop-left-preserved : goal.loop-left-preserved
 loop-left-preserved c =
     let snap = c.args.self.now in let at = c.args.start in let l = c.loop-left in let n = c.saturating_sub-table.result in
-    let columns : AreColumns snap.layout snap.columns = subst (λ (s : Snap). AreColumns s.layout s.columns) c.self.view_is c.self.invariant.columns in
-    let tables : All IsTable snap.layout.levels = subst (λ (s : Snap). All IsTable s.layout.levels) c.self.view_is c.self.invariant.tables in
-    let few : length (base_slots snap.layout.base) ≤ 67108864 = subst (λ (s : Snap). length (base_slots s.layout.base) ≤ 67108864) c.self.view_is c.self.invariant.base_slots in
-    let step = fragment-step snap.layout snap.columns (length snap.rows) at.v at.level l.place l.left columns tables few l.invariant.place c.loop-left-test.true in
+    let step = place-step c.self.inside snap c.self.view_is c.self.invariant at.v at.level l.place l.left l.invariant.place c.loop-left-test.true in
     let e = l.invariant.end in let some = c.loop-left-test.true in
     let same = l.invariant.marks ∙ ap (λ k. get_or snap.columns.marks k []) l.invariant.table in
     let sees : c.stands.result ≡ eqb (mark_at snap.columns (record { table = at.level - snap.layout.floor; place = l.place })) 0 = c.stands.ensures ∙ ap (λ xs. eqb (slice_index xs l.place) 0) same in

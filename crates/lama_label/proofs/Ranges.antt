@@ -1,0 +1,49 @@
+-- Parts of the numbers below a bound.
+use Rattle.std.proofs.Common.{◌≡◌, ◌∙◌, ℕ, zero, suc, ◌+◌, ◌-◌, ◌≤◌, List, [], ◌∷◌, ◌++◌, length, take, drop, ap, refl, arith}
+use Rattle.std.specs.Prelude.{filter}
+use Rattle.std.specs.List.{range_with_len, flat_map}
+use Rattle.std.proofs.lemmas.List.{append-nil, drop_all, take_all as take_whole}
+use Rattle.std.proofs.lemmas.List.Elements.{filter-append}
+use Rattle.std.proofs.lemmas.Grind.{flat_map-append}
+use Rattle.lama_model.specs.Row.{row_at}
+use Rattle.lama_label.specs.Lowering.{all_offers, is_lower, lower_offers, take_all}
+
+drop-range : (s a n : ℕ) → drop s (range_with_len a (s + n)) ≡ range_with_len (a + s) n
+drop-range zero a n = let x : 0 + n ≡ n = omega arith in let y : a ≡ a + 0 = omega arith in λ j. range_with_len (y j) (x j)
+drop-range (suc s) a n =
+    let x : suc s + n ≡ suc (s + n) = omega arith in
+    let y : a + 1 + s ≡ a + suc s = omega arith in
+    ap (λ k. drop (suc s) (range_with_len a k)) x ∙ (drop-range s (a + 1) n ∙ ap (λ k. range_with_len k n) y)
+
+take-range : (k a m : ℕ) → take k (range_with_len a (k + m)) ≡ range_with_len a k
+take-range zero a m = refl
+take-range (suc k) a m =
+    let x : suc k + m ≡ suc (k + m) = omega arith in
+    ap (λ n. take (suc k) (range_with_len a n)) x ∙ ap (λ l. a ∷ l) (take-range k (a + 1) m)
+
+-- the numbers from s to before e, among those below n
+pub range-part : (s e n : ℕ) → s ≤ e → e ≤ n → take (e - s) (drop s (range_with_len 0 n)) ≡ range_with_len s (e - s)
+range-part s e n le within =
+    let whole : n ≡ s + (e - s + (n - e)) = omega (arith, le, within) in
+    let from : 0 + s ≡ s = omega arith in
+    ap (λ k. take (e - s) (drop s (range_with_len 0 k))) whole
+    ∙ (ap (take (e - s)) (drop-range s 0 (e - s + (n - e)) ∙ ap (λ k. range_with_len k (e - s + (n - e))) from)
+    ∙ take-range (e - s) s (n - e))
+
+-- the lower offers of two lists of vertices are those of one and then those of the other
+pub offers-join : (rows : List (List (ℕ × ℕ))) (ls us ws : List ℕ) → lower_offers rows ls (us ++ ws) ≡ lower_offers rows ls us ++ lower_offers rows ls ws
+offers-join rows ls us ws = ap (filter (is_lower ls)) (flat_map-append (λ u. all_offers ls u (row_at rows u)) us ws) ∙ filter-append (is_lower ls) (flat_map (λ u. all_offers ls u (row_at rows u)) us) (flat_map (λ u. all_offers ls u (row_at rows u)) ws)
+
+-- those of a vertex first
+pub offers-first : (rows : List (List (ℕ × ℕ))) (ls : List ℕ) (u n : ℕ) → lower_offers rows ls (range_with_len u (suc n)) ≡ filter (is_lower ls) (all_offers ls u (row_at rows u)) ++ lower_offers rows ls (range_with_len (u + 1) n)
+offers-first rows ls u n = filter-append (is_lower ls) (all_offers ls u (row_at rows u)) (flat_map (λ u. all_offers ls u (row_at rows u)) (range_with_len (u + 1) n))
+
+pub take-append : (ps qs : List (ℕ × ℕ)) (ls : List ℕ) → take_all (ps ++ qs) ls ≡ take_all qs (take_all ps ls)
+take-append [] qs ls = refl
+take-append (p ∷ ps) qs ls = take-append ps qs _
+
+-- what is written over a whole list
+pub written-whole : (n : ℕ) (xs old : List ℕ) → length xs ≡ length old → n ≡ length old → take n (xs ++ drop (length xs) old) ≡ xs
+written-whole n xs old same size =
+    ap (λ l. take n (xs ++ l)) (drop_all (length xs) old (omega (arith, same)))
+    ∙ (ap (take n) (append-nil xs) ∙ take_whole n xs (omega (arith, same, size)))

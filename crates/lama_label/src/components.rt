@@ -1,0 +1,57 @@
+//! Labels, lowered in rounds until nothing changes.
+
+ghost use Rattle.std.specs.Prelude.{◌≡◌, ◌≤◌, IfOk, length};
+ghost use Rattle.std.specs.List.{range_with_len};
+ghost use Rattle.lama_model.specs.Row.{graph_of_rows};
+ghost use Rattle.lama_label.specs.Labels.{labels};
+
+use crate::lowering::{lower, total};
+use lama_base::Gate;
+use lama_model::Rows;
+use std::alloc::{AllocError, Global};
+use std::thread::Threads;
+
+/// The label of each vertex, by its number: the least vertex of its weak component, which is all that walks lead to that
+/// may take each edge in either direction.
+///
+/// In each round every edge offers to its ends, and to their labels, the label of the label of the other end, and every
+/// vertex takes the label of its label (FastSV: Zhang, Azad and Hu, FastSV: A Distributed-Memory Connected Component
+/// Algorithm with Fast Convergence, 2020). A round costs the vertices and the edges. With one worker, or for few vertices,
+/// it is done in place and takes no memory; else in a piece for each worker, each of which reaches the gate before its
+/// work and gives a list of what is lower. The only error is want of memory.
+pub fn labels<T: Threads + Sync, R: Rows + Sync, G: Gate + Sync>(
+    rt: &T,
+    alloc: Global,
+    rows: &R,
+    workers: u32,
+    gate: &G,
+) -> Result<Vec<u32>, AllocError>
+where
+    R::At: Send,
+    requires vertices { length (R.rows rows.now) ≤ 4194304 }
+    requires some { 1 ≤ workers }
+    requires few { workers ≤ 16 }
+    ensures { IfOk result (λ v. v.items ≡ labels (graph_of_rows (R.rows rows.now))) }
+{
+    let mut labels = numbers_below(alloc, rows.count())?;
+    let mut sum = total(&labels);
+    let mut changed = true;
+    while changed {
+        lower(rt, alloc, rows, &mut labels, workers, gate)?;
+        let now = total(&labels);
+        changed = now < sum;
+        sum = now;
+    }
+    Ok(labels)
+}
+
+// The numbers below a bound, rising.
+fn numbers_below(alloc: Global, count: u32) -> Result<Vec<u32>, AllocError>
+    ensures { IfOk result (λ v. v.items ≡ range_with_len 0 count) }
+{
+    let mut numbers = Vec::with_capacity(alloc, count as usize)?;
+    for v in 0..count {
+        numbers.push(v)?;
+    }
+    Ok(numbers)
+}

@@ -1,0 +1,11 @@
+//! Labels of a graph's weak components.
+#![tactic(auto)]
+
+mod components;
+pub mod laws;
+mod lowering;
+
+pub use components::labels;
+
+#[cfg(test)]
+mod tests;
