@@ -188,3 +188,25 @@ module _ (rows : List (List (ℕ × ℕ))) (targets : AreTargetsBelow (length ro
 
     pub settled-labels : ls ≡ labels g
     settled-labels = labels-only g row-ends ls settled-are
+
+-- the same labels where the rows are the same
+module _ (g h : Graph) (same : (u v : ℕ) → leads g.edges u v ≡ leads h.edges u v) where
+  walk-same : (vs : List ℕ) (u v : ℕ) → IsWalk (both_ways g).edges u vs v → IsWalk (both_ways h).edges u vs v
+  walk-same [] u v w = w
+  walk-same (x ∷ vs) u v w = (both-leads h u x ∙ ((λ j. sym (same u x) j || sym (same x u) j) ∙ (sym (both-leads g u x) ∙ w.0)), walk-same vs x v w.1)
+
+  joined-same : (u v : ℕ) → AreJoined g u v → AreJoined h u v
+  joined-same u v j = record { steps = j.steps; walk = record { vertices = j.walk.vertices; size = j.walk.size; walks = walk-same j.walk.vertices u v j.walk.walks } }
+
+pub labels_same : (g h : Graph) → IsGraph g → IsGraph h → g.count ≡ h.count → ((u v : ℕ) → leads g.edges u v ≡ leads h.edges u v) → labels g ≡ labels h
+labels_same g h graph graph' count same =
+    let k = labels_are g (graph-ends g graph) in
+    labels-only h (graph-ends h graph') (labels g) (record {
+      len = k.len ∙ count;
+      each = λ v lt.
+          let l = k.each v (omega (arith, lt, count)) in
+          record {
+            joined = joined-same g h same (slice_index (labels g) v) v l.joined;
+            least = λ u j. l.least u (joined-same h g (λ u v. sym (same u v)) u v j);
+          };
+    })
