@@ -16,4 +16,4 @@ pub struct Edge {
     pub weight: u64,
 }
 
-pub use outside::{Failed, Gate, Sink, SinkFault, Source};
+pub use outside::{Failed, Gate, PIECE_BEGINS, Sink, SinkFault, Source};

@@ -39,11 +39,18 @@ pub const PAGE_RECORDS: usize = 256;
 /// The greatest weight of an edge.
 pub const MAX_WEIGHT: u64 = 4_294_967_295;
 
-// A line of a script makes at most two calls, so no script fills the journal.
-const _: () = prove!(2 * MAX_LINES <= MAX_JOURNAL);
+/// A law of the limits: each `prove!` of its body is a relation between them, and the prover refuses a limit that breaks
+/// one. A call of it does nothing.
+pub fn limits_fit() {
+    // A line of a script makes at most two calls, so no script fills the journal.
+    prove!(2 * MAX_LINES <= MAX_JOURNAL);
 
-// A base of the greatest size has a slot for each edge and one for the end of each row, and its places fit 32 bits.
-const _: () = prove!(MAX_VERTICES + MAX_EDGES <= u32::MAX);
+    // A base of the greatest size has a slot for each edge and one for the end of each row, and its places fit 32 bits.
+    prove!(MAX_VERTICES + MAX_EDGES <= u32::MAX);
 
-// The records of a vertex table of the greatest size fill whole pages.
-const _: () = prove!(MAX_VERTICES as usize % PAGE_RECORDS == 0);
+    // A column of narrow weights has 32 bits for each.
+    prove!(MAX_WEIGHT == u32::MAX as u64);
+
+    // The records of a vertex table of the greatest size fill whole pages.
+    prove!(MAX_VERTICES as usize % PAGE_RECORDS == 0);
+}

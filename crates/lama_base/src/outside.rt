@@ -63,10 +63,13 @@ pub trait Sink {
         ensures bounded { faults self.new < 2 ^ 64 };
 }
 
+/// The point of a [`Gate`] at which a piece of a computation begins.
+pub const PIECE_BEGINS: u32 = 4;
+
 /// Points that a run reaches, at which a test may hold the thread that reaches them.
 ///
 /// The points are: 1 a call on the store is about to be made; 2 that call was answered; 3 a reading
-/// command holds its snapshot and has not read it yet; 4 a piece of a computation begins.
+/// command holds its snapshot and has not read it yet; 4, [`PIECE_BEGINS`], a piece of a computation begins.
 pub trait Gate {
     /// Says that the point was reached: at points 1 to 3 by the caller of that number, which is 0 where
     /// there is but one, and at point 4 by the piece of that index. It changes nothing that a contract sees.

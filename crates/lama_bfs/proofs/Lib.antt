@@ -1,3 +1,2 @@
-pub mod LevelLaw
 pub mod Marks
 pub mod Rounds

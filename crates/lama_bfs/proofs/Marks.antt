@@ -1,6 +1,5 @@
 -- What marking vertices one after another leaves.
 use Rattle.std.proofs.Common.{◌≡◌, ◌≢◌, ◌∙◌, ℕ, zero, suc, ◌<◌, ◌⊎◌, inl, inr, List, [], ◌∷◌, ◌++◌, length, set, map, cond, Bool, true, false, Option, None, Some, refl, sym, ap, subst, arith, true≢false}
-use Rattle.std.specs.Prelude.{Result, Ok, Err, IfOk}
 use Rattle.std.specs.Prelude.{◌==◌, ◌&&◌, ◌||◌, All, filter, is_none, slice_index_or, nat_lt}
 use Rattle.std.proofs.lemmas.Bool.{cases_eq}
 use Rattle.std.proofs.lemmas.Bool.Decides.{nat_tests}
@@ -9,7 +8,8 @@ use Rattle.std.proofs.lemmas.List.Elements.{All-head, All-tail, All-append}
 use Rattle.std.proofs.lemmas.List.Elements.{filter-append}
 use Rattle.std.proofs.lemmas.Grind.{flat_map-append}
 use Rattle.lama_model.specs.Row.{row_at}
-use Rattle.lama_bfs.specs.Frontier.{is_among, is_new, targets_of, new_targets, mark_one, mark_all, AreMarked}
+use Rattle.lama_model.specs.Levels.{is_among}
+use Rattle.lama_bfs.specs.Frontier.{is_new, targets_of, new_targets, mark_one, mark_all, AreMarked}
 
 abbrev pub State : Type 0
 State = List (Option ℕ) × List ℕ
@@ -166,6 +166,6 @@ module _ (level : ℕ) (before : List (Option ℕ)) where
 pub new-joins : (rows : List (List (ℕ × ℕ))) (levels : List (Option ℕ)) (us ws : List ℕ) → new_targets rows levels (us ++ ws) ≡ new_targets rows levels us ++ new_targets rows levels ws
 new-joins rows levels us ws = ap (filter (is_new levels)) (flat_map-append (λ u. map (λ p. p.0) (row_at rows u)) us ws) ∙ filter-append (is_new levels) (targets_of rows us) (targets_of rows ws)
 
-pub both-ok : {T E : Type 0} (r : Result T E) (P Q : T → Type 0) → IfOk r P → IfOk r Q → IfOk r (λ v. P v × Q v)
-both-ok (Ok x) P Q p q = (p, q)
-both-ok (Err e) P Q p q = tt
+-- the targets of two lists of vertices are those of one and then those of the other
+pub targets-join : (rows : List (List (ℕ × ℕ))) (us ws : List ℕ) → targets_of rows (us ++ ws) ≡ targets_of rows us ++ targets_of rows ws
+targets-join rows us ws = flat_map-append (λ u. map (λ p. p.0) (row_at rows u)) us ws

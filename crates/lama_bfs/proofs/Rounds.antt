@@ -1,5 +1,5 @@
 -- What stands between two levels, in a graph that has these rows.
-use Rattle.std.proofs.Common.{◌≡◌, ◌≢◌, ◌∙◌, ℕ, zero, suc, ◌+◌, ◌<◌, ◌≤◌, ◌⊎◌, inl, inr, List, [], ◌∷◌, length, get_or, set, map, reverse, replicate, cond, Bool, true, false, Option, None, Some, refl, sym, ap, subst, arith, true≢false}
+use Rattle.std.proofs.Common.{◌≡◌, ◌≢◌, ◌∙◌, ℕ, zero, suc, ◌+◌, ◌<◌, ◌≤◌, ◌⊎◌, inl, inr, List, [], ◌∷◌, length, get_or, set, map, replicate, cond, Bool, true, false, Option, None, Some, refl, sym, ap, subst, arith, true≢false}
 use Rattle.std.specs.Prelude.{◌==◌, ◌&&◌, ◌||◌, All, filter, is_none, slice_index_or}
 use Rattle.std.specs.List.{list_any, flat_map}
 use Rattle.std.proofs.lemmas.Bool.{cases_eq, cases_lt}
@@ -9,58 +9,19 @@ use Rattle.std.proofs.lemmas.List.{length-set, length-map, length-replicate, get
 use Rattle.std.proofs.lemmas.List.FromFn.{length-range_with_len, get_or-map-range_with_len}
 use Rattle.std.proofs.lemmas.List.Folds.{list_any-append}
 use Rattle.std.proofs.lemmas.Map.Views.{any-filter_same}
-use Rattle.lama_base.specs.declared.Edge.{Edge}
 use Rattle.lama_model.specs.Graph.{Graph}
-use Rattle.lama_model.specs.Row.{row, leaving, row_at, graph_of_rows, AreTargetsBelow}
-use Rattle.lama_model.proofs.ChangeLaw.{reverse_one}
+use Rattle.lama_model.specs.Row.{row_at, graph_of_rows, AreTargetsBelow}
 use Rattle.lama_model.proofs.RowsOfGraph.{row-of-rows}
-use Rattle.lama_bfs.specs.Levels.{leads, is_reached, level, levels}
-use Rattle.lama_bfs.specs.Frontier.{is_among, is_new, targets_of, new_targets, mark_all, AreMarked}
+use Rattle.lama_model.proofs.Leading.{leads-graph}
+use Rattle.lama_model.specs.Levels.{is_among, leads, is_reached, level, levels}
+use Rattle.lama_bfs.specs.Frontier.{is_new, targets_of, new_targets, mark_all, AreMarked}
 use Rattle.lama_bfs.proofs.Marks.{State, marked-none, marked-all}
 use Rattle.std.proofs.lemmas.List.Elements.{All-head, All-tail, All-append}
-use Rattle.lama_bfs.proofs.LevelLaw.{any-found, or-left, reached-step, last-edge, IsFirst, first-is, LeavesVertices, Least, on-way, least-one, least-below}
-
-any-map : {X Y : Type 0} (q : Y → Bool) (f : X → Y) (xs : List X) → list_any q (map f xs) ≡ list_any (λ x. q (f x)) xs
-any-map q f [] = refl
-any-map q f (x ∷ xs) = ap (λ b. q (f x) || b) (any-map q f xs)
-
-or-swap : (a b : Bool) → a || b ≡ b || a
-or-swap true true = refl
-or-swap true false = refl
-or-swap false true = refl
-or-swap false false = refl
-
-or-none : (a : Bool) → a || false ≡ a
-or-none true = refl
-or-none false = refl
-
-any-reverse : {X : Type 0} (q : X → Bool) (xs : List X) → list_any q (reverse xs) ≡ list_any q xs
-any-reverse q [] = refl
-any-reverse q (x ∷ xs) =
-    ap (list_any q) (reverse_one x xs)
-    ∙ (list_any-append q (reverse xs) (x ∷ [])
-    ∙ ((λ j. any-reverse q xs j || or-none (q x) j)
-    ∙ or-swap (list_any q xs) (q x)))
-
-any-filter : {X : Type 0} (q p : X → Bool) (xs : List X) → list_any q (filter p xs) ≡ list_any (λ x. p x && q x) xs
-any-filter q p [] = refl
-any-filter q p (x ∷ xs) = by (p x) refl (any-filter q p xs)
-  where
-    by : (b : Bool) → p x ≡ b → list_any q (filter p xs) ≡ list_any (λ x. p x && q x) xs → list_any q (cond b (x ∷ filter p xs) (filter p xs)) ≡ (b && q x) || list_any (λ x. p x && q x) xs
-    by true e h = ap (λ c. q x || c) h
-    by false e h = h
+use Rattle.lama_model.proofs.LevelLaw.{any-found, or-left, reached-step, last-edge, IsFirst, first-is, LeavesVertices, Least, on-way, least-one, least-below}
 
 any-flat_map : {X Y : Type 0} (q : Y → Bool) (f : X → List Y) (xs : List X) → list_any q (flat_map f xs) ≡ list_any (λ x. list_any q (f x)) xs
 any-flat_map q f [] = refl
 any-flat_map q f (x ∷ xs) = list_any-append q (f x) (flat_map f xs) ∙ ap (λ b. list_any q (f x) || b) (any-flat_map q f xs)
-
--- an edge goes from u to v where v is a target in the row of u
-pub leads-graph : (g : Graph) (u v : ℕ) → leads g.edges u v ≡ is_among v (map (λ p. p.0) (row g u))
-leads-graph g u v =
-    sym (any-map (λ t. t == v) (λ (p : ℕ × ℕ). p.0) (row g u)
-    ∙ (any-reverse (λ (p : ℕ × ℕ). p.0 == v) (leaving u g.edges)
-    ∙ (any-map (λ (p : ℕ × ℕ). p.0 == v) (λ (e : Edge). (e.target, e.weight)) (filter (λ e. e.source == u) g.edges)
-    ∙ any-filter (λ (e : Edge). e.target == v) (λ e. e.source == u) g.edges)))
 
 -- only one number is the first
 first-unique : (t : ℕ → Bool) (i k : ℕ) (o o' : Option ℕ) → IsFirst t i k o → IsFirst t i k o' → o ≡ o'

@@ -1,11 +1,8 @@
 -- Vertices that are found one level after another.
-use Rattle.std.specs.Prelude.{◌≡◌, ℕ, ◌<◌, ◌==◌, ◌&&◌, nat_lt, Bool, List, [], ◌∷◌, ◌++◌, All, filter, map, length, Option, None, Some, is_none, if◌then◌else◌, slice_index_or, slice_set}
-use Rattle.std.specs.List.{flat_map, list_any}
+use Rattle.std.specs.Prelude.{◌≡◌, ℕ, ◌<◌, ◌&&◌, nat_lt, Bool, List, [], ◌∷◌, ◌++◌, All, filter, map, length, Option, None, Some, is_none, if◌then◌else◌, slice_index_or, slice_set}
+use Rattle.std.specs.List.{flat_map}
 use Rattle.lama_model.specs.Row.{row_at}
-
--- the vertex is one of the list
-abbrev pub is_among : ℕ → List ℕ → Bool
-is_among v vs = list_any (λ u. u == v) vs
+use Rattle.lama_model.specs.Levels.{is_among}
 
 -- no level was found for the vertex
 abbrev pub is_new : List (Option ℕ) → ℕ → Bool

@@ -2,7 +2,7 @@
 
 ghost use Rattle.std.specs.Prelude.{◌≡◌, ◌<◌, ◌≤◌, IfOk, OnOk, length};
 ghost use Rattle.lama_model.specs.Row.{AreTargetsBelow, graph_of_rows};
-ghost use Rattle.lama_bfs.specs.Levels.{levels};
+ghost use Rattle.lama_model.specs.Levels.{levels};
 ghost use Rattle.lama_bfs.specs.Frontier.{targets_of, AreMarked};
 
 use crate::frontier::Search;
@@ -40,12 +40,13 @@ where
     let mut search = Search {
         levels,
         next: vec![in alloc; source]?,
+        spare: Vec::new(alloc),
     };
     let mut level = 0;
     while !search.next.is_empty() {
         level += 1;
         search.next_level(rt, alloc, rows, level, workers, gate)?;
     }
-    let Search { levels, next: _ } = search;
+    let Search { levels, .. } = search;
     Ok(levels)
 }

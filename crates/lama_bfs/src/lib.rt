@@ -3,7 +3,6 @@
 
 mod breadth_first;
 mod frontier;
-pub mod laws;
 
 pub use breadth_first::levels;
 

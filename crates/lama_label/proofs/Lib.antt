@@ -1,5 +1,4 @@
-pub mod Joined
 pub mod Lowered
-pub mod LabelLaw
+pub mod Settled
 pub mod Ranges
 pub mod Rounds

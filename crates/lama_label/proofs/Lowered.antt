@@ -1,15 +1,14 @@
 -- What lowering keeps, and what stands where nothing is lowered any more.
-use Rattle.std.proofs.Common.{◌≡◌, ◌≢◌, ◌∙◌, ℕ, zero, suc, ◌+◌, ◌<◌, ◌≤◌, ◌⊎◌, inl, inr, List, [], ◌∷◌, length, set, cond, Bool, true, false, refl, sym, ap, subst, arith}
-use Rattle.std.specs.Prelude.{All, slice_index, sum}
+use Rattle.std.proofs.Common.{◌≡◌, ◌≢◌, ◌∙◌, ℕ, zero, suc, ◌+◌, ◌<◌, ◌≤◌, ◌⊎◌, inl, inr, List, [], ◌∷◌, length, get_or, set, cond, Bool, true, false, refl, sym, ap, subst, arith}
+use Rattle.std.specs.Prelude.{All, min, slice_index, sum}
 use Rattle.std.proofs.lemmas.Bool.{cases_eq, cases_lt}
 use Rattle.std.proofs.lemmas.Bool.Decides.{nat_tests}
 use Rattle.std.proofs.lemmas.List.{length-set, get_or-set_same, get_or-set_other}
-use Rattle.std.proofs.lemmas.List.Sums.{sum_by-set}
+use Rattle.std.proofs.lemmas.List.Sums.{sum_by-set, sum_by-cons}
 use Rattle.lama_model.specs.Graph.{Graph}
-use Rattle.lama_model.specs.Row.{row_at}
-use Rattle.lama_label.specs.Labels.{AreJoined}
-use Rattle.lama_label.specs.Lowering.{second, offers, is_lower, take_one, take_all, take_edge, take_row, take_vertex, take_vertices, AreLow, IsEdgeSettled, IsSettled, IsLowered}
-use Rattle.lama_label.proofs.Joined.{joined-trans, joined-sym}
+use Rattle.lama_model.specs.Labels.{AreJoined}
+use Rattle.lama_label.specs.Lowering.{second, lower_second, offers, offered, is_lower, take_one, take_all, take_edge, take_edges, take_own, AreLow, AreEdgesOf, IsEdgeSettled, AreSettled, IsLowered}
+use Rattle.lama_model.proofs.Joined.{joined-trans, joined-sym}
 
 past : (ls : List ℕ) (v : ℕ) → length ls ≤ v → slice_index ls v ≡ 0
 past [] v le = refl
@@ -64,44 +63,80 @@ kept-all (p ∷ ps) ls =
     both e rest zero d lt = e
     both e rest (suc k) d lt = rest k d (omega (arith, lt))
 
-pub kept-row : (u : ℕ) (row : List (ℕ × ℕ)) (ls : List ℕ) → IsLowered ls (take_row u row ls) (All (λ p. IsEdgeSettled ls u p.0) row)
-kept-row u [] ls = record { less = omega arith; same = λ eq. (refl, λ k d lt. absurd (omega (arith, lt))) }
-kept-row u (p ∷ row) ls =
-    let h = kept-all (offers ls u p.0) ls in
-    let k = kept-row u row (take_edge u p.0 ls) in
+pub kept-edges : (es : List (ℕ × ℕ)) (ls : List ℕ) → IsLowered ls (take_edges es ls) (AreSettled es ls)
+kept-edges [] ls = record { less = omega arith; same = λ eq. (refl, λ k d lt. absurd (omega (arith, lt))) }
+kept-edges (e ∷ es) ls =
+    let h = kept-all (offers ls e.0 e.1) ls in
+    let k = kept-edges es (take_edge e.0 e.1 ls) in
     record {
       less = (let x = h.less in let y = k.less in omega (arith, x, y));
       same = λ eq.
           let x = h.less in let y = k.less in
           let first = h.same (omega (arith, x, y, eq)) in
           let next = k.same (omega (arith, x, y, eq)) in
-          (next.0 ∙ first.0, both first.1 (subst (λ l. All (λ p. IsEdgeSettled l u p.0) row) first.0 next.1));
+          (next.0 ∙ first.0, both first.1 (subst (AreSettled es) first.0 next.1));
     }
   where
-    both : IsEdgeSettled ls u p.0 → All (λ p. IsEdgeSettled ls u p.0) row → All (λ p. IsEdgeSettled ls u p.0) (p ∷ row)
-    both e rest zero d lt = e
-    both e rest (suc k) d lt = rest k d (omega (arith, lt))
+    both : IsEdgeSettled ls e.0 e.1 → AreSettled es ls → AreSettled (e ∷ es) ls
+    both h rest zero d lt = h
+    both h rest (suc k) d lt = rest k d (omega (arith, lt))
 
-pub kept-vertices : (rows : List (List (ℕ × ℕ))) (us : List ℕ) (ls : List ℕ) → IsLowered ls (take_vertices rows us ls) (All (IsSettled rows ls) us)
-kept-vertices rows [] ls = record { less = omega arith; same = λ eq. (refl, λ k d lt. absurd (omega (arith, lt))) }
-kept-vertices rows (u ∷ us) ls =
-    let o = kept-one (u, second ls u) ls in
-    let h = kept-row u (row_at rows u) (take_one (u, second ls u) ls) in
-    let k = kept-vertices rows us (take_vertex rows u ls) in
+length-all : (ps : List (ℕ × ℕ)) (ls : List ℕ) → length (take_all ps ls) ≡ length ls
+length-all [] ls = refl
+length-all (p ∷ ps) ls = length-all ps (take_one p ls) ∙ length-one p ls
+
+pub length-edges : (es : List (ℕ × ℕ)) (ls : List ℕ) → length (take_edges es ls) ≡ length ls
+length-edges [] ls = refl
+length-edges (e ∷ es) ls = length-edges es (take_edge e.0 e.1 ls) ∙ length-all (offers ls e.0 e.1) ls
+
+-- each vertex with the label of its label
+pub kept-own : (vs ls : List ℕ) → IsLowered ls (take_own vs ls) (Unit {0})
+kept-own [] ls = record { less = omega arith; same = λ eq. (refl, tt) }
+kept-own (v ∷ vs) ls =
+    let h = kept-one (v, second ls v) ls in
+    let k = kept-own vs (take_one (v, second ls v) ls) in
     record {
-      less = (let w = o.less in let x = h.less in let y = k.less in omega (arith, w, x, y));
+      less = (let x = h.less in let y = k.less in omega (arith, x, y));
       same = λ eq.
-          let w = o.less in let x = h.less in let y = k.less in
-          let own = o.same (omega (arith, w, x, y, eq)) in
-          let first = h.same (omega (arith, w, x, y, eq)) in
-          let next = k.same (omega (arith, w, x, y, eq)) in
-          let here : take_vertex rows u ls ≡ ls = first.0 ∙ own.0 in
-          (next.0 ∙ here, both (record { own = own.1; edges = subst (λ l. All (λ p. IsEdgeSettled l u p.0) (row_at rows u)) own.0 first.1 }) (subst (λ l. All (IsSettled rows l) us) here next.1));
+          let x = h.less in let y = k.less in
+          let first = h.same (omega (arith, x, y, eq)) in
+          let next = k.same (omega (arith, x, y, eq)) in
+          (next.0 ∙ first.0, tt);
     }
+
+-- one lowering after another
+pub lowered-own : {P : Type 0} (ls ls' : List ℕ) (vs : List ℕ) → IsLowered ls ls' P → IsLowered ls (take_own vs ls') P
+lowered-own ls ls' vs h =
+    let k = kept-own vs ls' in
+    record {
+      less = (let x = h.less in let y = k.less in omega (arith, x, y));
+      same = λ eq.
+          let x = h.less in let y = k.less in
+          let first = h.same (omega (arith, x, y, eq)) in
+          let next = k.same (omega (arith, x, y, eq)) in
+          (next.0 ∙ first.0, first.1);
+    }
+
+-- labels of which none is lower sum up to no less
+pub offered-sum : (ls : List ℕ) (v : ℕ) (cs part : List ℕ) → length cs ≡ length part → ((k : ℕ) → k < length part → slice_index ls (v + k) ≡ get_or part k 0) → All (λ p. is_lower ls p ≡ false) (offered v cs) → sum part ≤ sum cs
+offered-sum ls v [] [] same at h = omega arith
+offered-sum ls v [] (l ∷ part) same at h = absurd (omega (arith, same))
+offered-sum ls v (c ∷ cs) [] same at h = absurd (omega (arith, same))
+offered-sum ls v (c ∷ cs) (l ∷ part) same at h =
+    let here : slice_index ls v ≡ l = ap (slice_index ls) (let z : v ≡ v + 0 = omega arith in z) ∙ at 0 (omega arith) in
+    let e = h 0 (v, c) (omega arith) in
+    let le : slice_index ls v ≤ c = grind (arith, nat_tests, e) in
+    let rest = offered-sum ls (suc v) cs part (omega (arith, same)) (λ k lt. ap (slice_index ls) (let z : suc v + k ≡ v + suc k = omega arith in z) ∙ at (suc k) (omega (arith, lt))) (λ k d lt. h (suc k) d (omega (arith, lt))) in
+    let more : sum (l ∷ part) ≡ l + sum part = sum_by-cons (λ x. x) l part in
+    let most : sum (c ∷ cs) ≡ c + sum cs = sum_by-cons (λ x. x) c cs in
+    omega (arith, here, le, rest, more, most)
+
+min-is : (a b : ℕ) → (min a b ≡ a) ⊎ (min a b ≡ b)
+min-is a b = by (cases_lt a b)
   where
-    both : IsSettled rows ls u → All (IsSettled rows ls) us → All (IsSettled rows ls) (u ∷ us)
-    both e rest zero d lt = e
-    both e rest (suc k) d lt = rest k d (omega (arith, lt))
+    by : (a < b) ⊎ (b ≤ a) → (min a b ≡ a) ⊎ (min a b ≡ b)
+    by (inl lt) = inl (omega (arith, lt))
+    by (inr le) = inr (omega (arith, le))
 
 module _ (g : Graph) where
   -- the label of the label likewise
@@ -136,52 +171,49 @@ module _ (g : Graph) where
 
   -- what an edge offers is joined
   pub edge-joined : (ls : List ℕ) → AreLow g ls → (u v : ℕ) → u < g.count → v < g.count → AreJoined g u v → All (λ p. AreJoined g p.1 p.0) (offers ls u v)
-  edge-joined ls h u v lu lv edge =
-      let gu = (low-second ls h u lu).1 in
-      let gv = (low-second ls h v lv).1 in
-      let uv = edge in let vu = joined-sym g u v edge in
-      let a = joined-sym g (slice_index ls u) u (h.each u lu).1 in
-      let b = joined-sym g (slice_index ls v) v (h.each v lv).1 in
-      let one = joined-trans g (second ls v) v u gv vu in
-      let two = joined-trans g (second ls v) u (slice_index ls u) one a in
-      let three = joined-trans g (second ls u) u v gu uv in
-      let four = joined-trans g (second ls u) v (slice_index ls v) three b in
-      by one two three four
+  edge-joined ls h u v lu lv edge = by (lower (min-is (second ls u) (second ls v)))
     where
-      by : AreJoined g (second ls v) u → AreJoined g (second ls v) (slice_index ls u) → AreJoined g (second ls u) v → AreJoined g (second ls u) (slice_index ls v) → All (λ p. AreJoined g p.1 p.0) (offers ls u v)
-      by one two three four zero d lt = one
-      by one two three four (suc zero) d lt = two
-      by one two three four (suc (suc zero)) d lt = three
-      by one two three four (suc (suc (suc zero))) d lt = four
-      by one two three four (suc (suc (suc (suc k)))) d lt = absurd (omega (arith, lt))
+      lower : (min (second ls u) (second ls v) ≡ second ls u) ⊎ (min (second ls u) (second ls v) ≡ second ls v) → AreJoined g (lower_second ls u v) u
+      lower (inl e) = subst (λ k. AreJoined g k u) (sym e) (low-second ls h u lu).1
+      lower (inr e) = subst (λ k. AreJoined g k u) (sym e) (joined-trans g (second ls v) v u (low-second ls h v lv).1 (joined-sym g u v edge))
 
-  -- the edges of a row
-  abbrev pub IsRowOf : ℕ → List (ℕ × ℕ) → Type 0
-  IsRowOf u row = All (λ p. (p.0 < g.count) × AreJoined g u p.0) row
+      by : AreJoined g (lower_second ls u v) u → All (λ p. AreJoined g p.1 p.0) (offers ls u v)
+      by one zero d lt = one
+      by one (suc zero) d lt = joined-trans g (lower_second ls u v) u (slice_index ls u) one (joined-sym g (slice_index ls u) u (h.each u lu).1)
+      by one (suc (suc zero)) d lt = joined-trans g (lower_second ls u v) u v one edge
+      by one (suc (suc (suc zero))) d lt = joined-trans g (lower_second ls u v) v (slice_index ls v) (joined-trans g (lower_second ls u v) u v one edge) (joined-sym g (slice_index ls v) v (h.each v lv).1)
+      by one (suc (suc (suc (suc k)))) d lt = absurd (omega (arith, lt))
 
-  low-row : (u : ℕ) → u < g.count → (row : List (ℕ × ℕ)) (ls : List ℕ) → AreLow g ls → IsRowOf u row → AreLow g (take_row u row ls)
-  low-row u lu [] ls h are = h
-  low-row u lu (p ∷ row) ls h are =
-      let first = are 0 p (omega arith) in
-      low-row u lu row (take_edge u p.0 ls) (low-all (offers ls u p.0) ls h (edge-joined ls h u p.0 lu first.0 first.1)) (λ k d lt. are (suc k) d (omega (arith, lt)))
+  pub low-edges : (es : List (ℕ × ℕ)) (ls : List ℕ) → AreLow g ls → AreEdgesOf g es → AreLow g (take_edges es ls)
+  low-edges [] ls h are = h
+  low-edges (e ∷ es) ls h are =
+      let first = are 0 e (omega arith) in
+      low-edges es (take_edge e.0 e.1 ls) (low-all (offers ls e.0 e.1) ls h (edge-joined ls h e.0 e.1 first.0 first.1 first.2)) (λ k d lt. are (suc k) d (omega (arith, lt)))
 
-  pub low-vertices : (rows : List (List (ℕ × ℕ))) (us : List ℕ) (ls : List ℕ) → AreLow g ls → All (λ u. (u < g.count) × IsRowOf u (row_at rows u)) us → AreLow g (take_vertices rows us ls)
-  low-vertices rows [] ls h are = h
-  low-vertices rows (u ∷ us) ls h are =
-      let first = are 0 u (omega arith) in
-      low-vertices rows us (take_vertex rows u ls)
-      (low-row u first.0 (row_at rows u) (take_one (u, second ls u) ls) (low-one (u, second ls u) ls h (low-second ls h u first.0).1) first.1)
-      (λ k d lt. are (suc k) d (omega (arith, lt)))
+  -- what low labels offer to their own vertices is joined
+  offered-joined : (v : ℕ) (cs : List ℕ) → ((k : ℕ) → k < length cs → AreJoined g (get_or cs k 0) (v + k)) → All (λ p. AreJoined g p.1 p.0) (offered v cs)
+  offered-joined v [] at k d lt = absurd (omega (arith, lt))
+  offered-joined v (c ∷ cs) at zero d lt = subst (AreJoined g c) (let z : v + 0 ≡ v = omega arith in z) (at 0 (omega arith))
+  offered-joined v (c ∷ cs) at (suc k) d lt =
+      offered-joined (suc v) cs (λ i li. subst (AreJoined g (get_or cs i 0)) (let z : v + suc i ≡ suc v + i = omega arith in z) (at (suc i) (omega (arith, li)))) k d (omega (arith, lt))
+
+  pub low-offered : (cs : List ℕ) → AreLow g cs → All (λ p. AreJoined g p.1 p.0) (offered 0 cs)
+  low-offered cs h = offered-joined 0 cs (λ k lt. subst (AreJoined g (get_or cs k 0)) (let z : k ≡ 0 + k = omega arith in z) (h.each k (let n = h.len in omega (arith, lt, n))).1)
 
   -- where nothing is lower any more, the two ends of an edge have one label
-  pub settled-edge : (ls : List ℕ) → AreLow g ls → (u v : ℕ) → u < g.count → v < g.count → is_lower ls (u, second ls u) ≡ false → is_lower ls (v, second ls v) ≡ false → IsEdgeSettled ls u v → slice_index ls u ≡ slice_index ls v
-  settled-edge ls h u v lu lv flat_u flat_v edge =
+  pub settled-edge : (ls : List ℕ) → AreLow g ls → (u v : ℕ) → u < g.count → v < g.count → IsEdgeSettled ls u v → slice_index ls u ≡ slice_index ls v
+  settled-edge ls h u v lu lv edge =
       let su = (low-second ls h u lu).0 in
       let sv = (low-second ls h v lv).0 in
-      let fu : slice_index ls u ≤ second ls u = grind (arith, nat_tests, flat_u) in
-      let fv : slice_index ls v ≤ second ls v = grind (arith, nat_tests, flat_v) in
       let e0 = edge 0 (0, 0) (omega arith) in
       let e2 = edge 2 (0, 0) (omega arith) in
-      let a : slice_index ls u ≤ second ls v = grind (arith, nat_tests, e0) in
-      let b : slice_index ls v ≤ second ls u = grind (arith, nat_tests, e2) in
-      omega (arith, su, sv, fu, fv, a, b)
+      let a : slice_index ls u ≤ lower_second ls u v = grind (arith, nat_tests, e0) in
+      let b : slice_index ls v ≤ lower_second ls u v = grind (arith, nat_tests, e2) in
+      let left : lower_second ls u v ≤ second ls u = omega arith in
+      let right : lower_second ls u v ≤ second ls v = omega arith in
+      omega (arith, su, sv, a, b, left, right)
+
+  pub low-own : (vs ls : List ℕ) → AreLow g ls → All (λ v. v < g.count) vs → AreLow g (take_own vs ls)
+  low-own [] ls h below = h
+  low-own (v ∷ vs) ls h below =
+      low-own vs (take_one (v, second ls v) ls) (low-one (v, second ls v) ls h (low-second ls h v (below 0 v (omega arith))).1) (λ k d lt. below (suc k) d (omega (arith, lt)))

@@ -1,12 +1,10 @@
 -- Parts of the numbers below a bound.
-use Rattle.std.proofs.Common.{◌≡◌, ◌∙◌, ℕ, zero, suc, ◌+◌, ◌-◌, ◌≤◌, List, [], ◌∷◌, ◌++◌, length, take, drop, ap, refl, arith}
-use Rattle.std.specs.Prelude.{filter}
-use Rattle.std.specs.List.{range_with_len, flat_map}
+use Rattle.std.proofs.Common.{◌≡◌, ◌∙◌, ℕ, zero, suc, ◌+◌, ◌-◌, ◌≤◌, List, [], ◌∷◌, ◌++◌, length, map, take, drop, ap, refl, arith}
+use Rattle.std.specs.List.{range_with_len}
 use Rattle.std.proofs.lemmas.List.{append-nil, drop_all, take_all as take_whole}
-use Rattle.std.proofs.lemmas.List.Elements.{filter-append}
 use Rattle.std.proofs.lemmas.Grind.{flat_map-append}
 use Rattle.lama_model.specs.Row.{row_at}
-use Rattle.lama_label.specs.Lowering.{all_offers, is_lower, lower_offers, take_all}
+use Rattle.lama_label.specs.Lowering.{edges_from, take_all, take_edges}
 
 drop-range : (s a n : ℕ) → drop s (range_with_len a (s + n)) ≡ range_with_len (a + s) n
 drop-range zero a n = let x : 0 + n ≡ n = omega arith in let y : a ≡ a + 0 = omega arith in λ j. range_with_len (y j) (x j)
@@ -30,17 +28,17 @@ range-part s e n le within =
     ∙ (ap (take (e - s)) (drop-range s 0 (e - s + (n - e)) ∙ ap (λ k. range_with_len k (e - s + (n - e))) from)
     ∙ take-range (e - s) s (n - e))
 
--- the lower offers of two lists of vertices are those of one and then those of the other
-pub offers-join : (rows : List (List (ℕ × ℕ))) (ls us ws : List ℕ) → lower_offers rows ls (us ++ ws) ≡ lower_offers rows ls us ++ lower_offers rows ls ws
-offers-join rows ls us ws = ap (filter (is_lower ls)) (flat_map-append (λ u. all_offers ls u (row_at rows u)) us ws) ∙ filter-append (is_lower ls) (flat_map (λ u. all_offers ls u (row_at rows u)) us) (flat_map (λ u. all_offers ls u (row_at rows u)) ws)
-
--- those of a vertex first
-pub offers-first : (rows : List (List (ℕ × ℕ))) (ls : List ℕ) (u n : ℕ) → lower_offers rows ls (range_with_len u (suc n)) ≡ filter (is_lower ls) (all_offers ls u (row_at rows u)) ++ lower_offers rows ls (range_with_len (u + 1) n)
-offers-first rows ls u n = filter-append (is_lower ls) (all_offers ls u (row_at rows u)) (flat_map (λ u. all_offers ls u (row_at rows u)) (range_with_len (u + 1) n))
+-- the edges that leave two lists of vertices are those of one and then those of the other
+pub edges-join : (rows : List (List (ℕ × ℕ))) (us ws : List ℕ) → edges_from rows (us ++ ws) ≡ edges_from rows us ++ edges_from rows ws
+edges-join rows us ws = flat_map-append (λ u. map (λ p. (u, p.0)) (row_at rows u)) us ws
 
 pub take-append : (ps qs : List (ℕ × ℕ)) (ls : List ℕ) → take_all (ps ++ qs) ls ≡ take_all qs (take_all ps ls)
 take-append [] qs ls = refl
 take-append (p ∷ ps) qs ls = take-append ps qs _
+
+pub edges-append : (es fs : List (ℕ × ℕ)) (ls : List ℕ) → take_edges (es ++ fs) ls ≡ take_edges fs (take_edges es ls)
+edges-append [] fs ls = refl
+edges-append (e ∷ es) fs ls = edges-append es fs _
 
 -- what is written over a whole list
 pub written-whole : (n : ℕ) (xs old : List ℕ) → length xs ≡ length old → n ≡ length old → take n (xs ++ drop (length xs) old) ≡ xs

@@ -1,14 +1,13 @@
 -- What a round leaves, in place or in pieces.
-use Rattle.std.proofs.Common.{◌≡◌, ◌∙◌, ℕ, zero, suc, ◌<◌, List, [], ◌∷◌, ◌++◌, length, get_or, cond, Bool, true, false, refl, sym, subst, arith, true≢false}
-use Rattle.std.specs.Prelude.{All, filter}
-use Rattle.std.specs.List.{range_with_len, flat_map}
-use Rattle.std.proofs.lemmas.List.Elements.{All-head, All-tail, All-append}
-use Rattle.std.proofs.lemmas.List.FromFn.{length-range_with_len, get_or-range_with_len}
-use Rattle.lama_model.specs.Row.{row_at, graph_of_rows, AreTargetsBelow}
-use Rattle.lama_label.specs.Labels.{AreJoined}
-use Rattle.lama_label.specs.Lowering.{second, offers, all_offers, is_lower, lower_offers, take_all, take_vertices, AreLow, IsSettled, IsLowered}
-use Rattle.lama_label.proofs.Lowered.{kept-all, kept-vertices, low-second, low-all, low-vertices, edge-joined, IsRowOf}
-use Rattle.lama_label.proofs.LabelLaw.{rows-of}
+use Rattle.std.proofs.Common.{◌≡◌, ◌∙◌, ℕ, zero, suc, ◌+◌, ◌<◌, List, [], ◌∷◌, ◌++◌, length, get_or, map, false, refl, sym, ap, subst, arith}
+use Rattle.std.specs.Prelude.{All, slice_index}
+use Rattle.std.specs.List.{flat_map}
+use Rattle.std.proofs.lemmas.List.Elements.{All-head, All-tail, All-append, All-map}
+use Rattle.std.proofs.lemmas.List.{append-nil}
+use Rattle.lama_model.specs.Graph.{Graph}
+use Rattle.lama_model.specs.Labels.{AreJoined}
+use Rattle.lama_label.specs.Lowering.{offered, is_lower, take_all, take_edges, AreLow, AreEdgesOf, IsEdgeSettled, AreSettled, IsLowered}
+use Rattle.lama_label.proofs.Lowered.{kept-all, kept-edges, length-edges, offered-sum, low-edges, low-offered}
 
 none : {X : Type 0} (P : X → Type 0) → All P []
 none P k d lt = absurd (omega (arith, lt))
@@ -17,83 +16,86 @@ one-more : {X : Type 0} (P : X → Type 0) (x : X) (xs : List X) → P x → All
 one-more P x xs h rest zero d lt = h
 one-more P x xs h rest (suc k) d lt = rest k d (omega (arith, lt))
 
-all-flat_map : {X Y : Type 0} (P : Y → Type 0) (f : X → List Y) (xs : List X) → All (λ x. All P (f x)) xs → All P (flat_map f xs)
-all-flat_map P f [] h = none P
-all-flat_map P f (x ∷ xs) h = All-append P (f x) (flat_map f xs) (All-head (λ x. All P (f x)) x xs h) (all-flat_map P f xs (All-tail (λ x. All P (f x)) x xs h))
-
-all-filter : {X : Type 0} (P : X → Type 0) (test : X → Bool) (xs : List X) → All P xs → All P (filter test xs)
-all-filter P test [] h = none P
-all-filter P test (x ∷ xs) h = by (test x) (all-filter P test xs (All-tail P x xs h))
-  where
-    by : (b : Bool) → All P (filter test xs) → All P (cond b (x ∷ filter test xs) (filter test xs))
-    by true rest = one-more P x (filter test xs) (All-head P x xs h) rest
-    by false rest = rest
-
--- where none that passes passes, none passes
-none-passes : {X : Type 0} (test : X → Bool) (xs : List X) → All (λ x. test x ≡ false) (filter test xs) → All (λ x. test x ≡ false) xs
-none-passes test [] h = none (λ x. test x ≡ false)
-none-passes test (x ∷ xs) h = by (test x) refl h (none-passes test xs)
-  where
-    by : (b : Bool) → test x ≡ b → All (λ x. test x ≡ false) (cond b (x ∷ filter test xs) (filter test xs)) → (All (λ x. test x ≡ false) (filter test xs) → All (λ x. test x ≡ false) xs) → All (λ x. test x ≡ false) (x ∷ xs)
-    by true e h rest = absurd (true≢false (sym e ∙ All-head (λ x. test x ≡ false) x (filter test xs) h))
-    by false e h rest = one-more (λ x. test x ≡ false) x xs e (rest h)
-
 -- the parts of a list of which all is said
-front : {X : Type 0} (P : X → Type 0) (xs ys : List X) → All P (xs ++ ys) → All P xs
+pub front : {X : Type 0} (P : X → Type 0) (xs ys : List X) → All P (xs ++ ys) → All P xs
 front P [] ys h = none P
 front P (x ∷ xs) ys h = one-more P x xs (All-head P x (xs ++ ys) h) (front P xs ys (All-tail P x (xs ++ ys) h))
 
-rest-of : {X : Type 0} (P : X → Type 0) (xs ys : List X) → All P (xs ++ ys) → All P ys
+pub rest-of : {X : Type 0} (P : X → Type 0) (xs ys : List X) → All P (xs ++ ys) → All P ys
 rest-of P [] ys h = h
 rest-of P (x ∷ xs) ys h = rest-of P xs ys (All-tail P x (xs ++ ys) h)
 
-split-flat : {X Y : Type 0} (P : Y → Type 0) (f : X → List Y) (xs : List X) → All P (flat_map f xs) → All (λ x. All P (f x)) xs
+pub split-flat : {X Y : Type 0} (P : Y → Type 0) (f : X → List Y) (xs : List X) → All P (flat_map f xs) → All (λ x. All P (f x)) xs
 split-flat P f [] h = none (λ x. All P (f x))
 split-flat P f (x ∷ xs) h = one-more (λ x. All P (f x)) x xs (front P (f x) (flat_map f xs) h) (split-flat P f xs (rest-of P (f x) (flat_map f xs) h))
 
-module _ (rows : List (List (ℕ × ℕ))) (targets : AreTargetsBelow (length rows) rows) (ls ls' : List ℕ) where
-  abbrev all : List ℕ
-  all = range_with_len 0 (length rows)
+pub unmap : {X Y : Type 0} (P : Y → Type 0) (h : X → Y) (xs : List X) → All P (map h xs) → All (λ x. P (h x)) xs
+unmap P h [] a = λ k d lt. absurd (omega (arith, lt))
+unmap P h (x ∷ xs) a = one-more (λ x. P (h x)) x xs (a 0 (h x) (omega arith)) (unmap P h xs (λ i d li. a (suc i) d (omega (arith, li))))
 
-  all-below : All (λ u. u < length rows) all
-  all-below k d lt =
-      let size = length-range_with_len 0 (length rows) in
-      let within : k < length rows = omega (arith, lt, size) in
-      let is = get_or-range_with_len 0 (length rows) k d within in
-      omega (arith, is, within)
+-- the lists of edges of the pieces
+abbrev pub all_of : List (List (ℕ × ℕ)) → List (ℕ × ℕ)
+all_of ess = flat_map (λ es. es) ess
 
-  pub low-in-place : ls' ≡ take_vertices rows all ls → AreLow (graph_of_rows rows) ls → AreLow (graph_of_rows rows) ls'
-  low-in-place is low = subst (AreLow (graph_of_rows rows)) (sym is) (low-vertices (graph_of_rows rows) rows all ls low (rows-of rows targets all all-below))
+module _ (ls : List ℕ) where
+  -- what the copies after these lists of edges offer
+  abbrev pub copied : List (List (ℕ × ℕ)) → List (ℕ × ℕ)
+  copied ess = flat_map (λ es. offered 0 (take_edges es ls)) ess
 
-  pub lowered-in-place : ls' ≡ take_vertices rows all ls → IsLowered ls ls' (All (IsSettled rows ls) all)
-  lowered-in-place is = subst (λ l. IsLowered ls l (All (IsSettled rows ls) all)) (sym is) (kept-vertices rows all ls)
+  pub low-in-pieces : (g : Graph) → AreLow g ls → (ess : List (List (ℕ × ℕ))) → AreEdgesOf g (all_of ess) → All (λ p. AreJoined g p.1 p.0) (copied ess)
+  low-in-pieces g low [] are = none (λ p. AreJoined g p.1 p.0)
+  low-in-pieces g low (es ∷ ess) are =
+      let mine : AreEdgesOf g es = front (λ e. (e.0 < g.count) × (e.1 < g.count) × AreJoined g e.0 e.1) es (all_of ess) are in
+      All-append (λ p. AreJoined g p.1 p.0) (offered 0 (take_edges es ls)) (copied ess)
+      (low-offered g (take_edges es ls) (low-edges g es ls low mine))
+      (low-in-pieces g low ess (rest-of (λ e. (e.0 < g.count) × (e.1 < g.count) × AreJoined g e.0 e.1) es (all_of ess) are))
 
-  offers-joined : AreLow (graph_of_rows rows) ls → (us : List ℕ) → All (λ u. (u < length rows) × IsRowOf (graph_of_rows rows) u (row_at rows u)) us → All (λ u. All (λ p. AreJoined (graph_of_rows rows) p.1 p.0) (all_offers ls u (row_at rows u))) us
-  offers-joined low us are k d lt =
-      let u = get_or us k d in
-      let is = are k d lt in
-      one-more (λ p. AreJoined (graph_of_rows rows) p.1 p.0) (u, second ls u) (flat_map (λ p. offers ls u p.0) (row_at rows u)) (low-second (graph_of_rows rows) ls low u is.0).1
-      (all-flat_map (λ p. AreJoined (graph_of_rows rows) p.1 p.0) (λ p. offers ls u p.0) (row_at rows u) (λ i p li. edge-joined (graph_of_rows rows) ls low u (get_or (row_at rows u) i p).0 is.0 (is.1 i p li).0 (is.1 i p li).1))
+  -- where no copy offers a lower label, nothing is lower
+  settled-in-pieces : (ess : List (List (ℕ × ℕ))) → All (λ p. is_lower ls p ≡ false) (copied ess) → AreSettled (all_of ess) ls
+  settled-in-pieces [] quiet = λ k d lt. absurd (omega (arith, lt))
+  settled-in-pieces (es ∷ ess) quiet =
+      let mine = front (λ p. is_lower ls p ≡ false) (offered 0 (take_edges es ls)) (copied ess) quiet in
+      let k = kept-edges es ls in
+      let less = k.less in
+      let more = offered-sum ls 0 (take_edges es ls) ls (length-edges es ls) (λ i lt. ap (slice_index ls) (let z : 0 + i ≡ i = omega arith in z)) mine in
+      let here : AreSettled es ls = (k.same (omega (arith, less, more))).1 in
+      All-append (λ e. IsEdgeSettled ls e.0 e.1) es (all_of ess) here
+      (settled-in-pieces ess (rest-of (λ p. is_lower ls p ≡ false) (offered 0 (take_edges es ls)) (copied ess) quiet))
 
-  pub low-in-pieces : ls' ≡ take_all (lower_offers rows ls all) ls → AreLow (graph_of_rows rows) ls → AreLow (graph_of_rows rows) ls'
-  low-in-pieces is low = subst (AreLow (graph_of_rows rows)) (sym is)
-      (low-all (graph_of_rows rows) (lower_offers rows ls all) ls low
-      (all-filter (λ p. AreJoined (graph_of_rows rows) p.1 p.0) (is_lower ls) (flat_map (λ u. all_offers ls u (row_at rows u)) all)
-      (all-flat_map (λ p. AreJoined (graph_of_rows rows) p.1 p.0) (λ u. all_offers ls u (row_at rows u)) all (offers-joined low all (rows-of rows targets all all-below)))))
+  pub lowered-in-pieces : (ess : List (List (ℕ × ℕ))) → IsLowered ls (take_all (copied ess) ls) (AreSettled (all_of ess) ls)
+  lowered-in-pieces ess =
+      let k = kept-all (copied ess) ls in
+      record { less = k.less; same = λ eq. let s = k.same eq in (s.0, settled-in-pieces ess s.1) }
 
-  settled-of : (u : ℕ) → All (λ p. is_lower ls p ≡ false) (all_offers ls u (row_at rows u)) → IsSettled rows ls u
-  settled-of u h = record {
-    own = All-head (λ p. is_lower ls p ≡ false) (u, second ls u) (flat_map (λ p. offers ls u p.0) (row_at rows u)) h;
-    edges = split-flat (λ p. is_lower ls p ≡ false) (λ p. offers ls u p.0) (row_at rows u) (All-tail (λ p. is_lower ls p ≡ false) (u, second ls u) (flat_map (λ p. offers ls u p.0) (row_at rows u)) h);
-  }
+-- what copies have, where each is what its edges leave of the labels
+pub copies-are : {T U : Type 0} (items : T → List ℕ) (edges : U → List (ℕ × ℕ)) (ls : List ℕ) (ts : List T) (us : List U) → length ts ≡ length us
+    → ((i : ℕ) (d : T) → i < length us → (e : List (ℕ × ℕ)) → items (get_or ts i d) ≡ take_edges (get_or (map edges us) i e) ls) → map items ts ≡ map (λ u. take_edges (edges u) ls) us
+copies-are items edges ls [] [] same h = refl
+copies-are items edges ls [] (u ∷ us) same h = absurd (omega (arith, same))
+copies-are items edges ls (t ∷ ts) [] same h = absurd (omega (arith, same))
+copies-are items edges ls (t ∷ ts) (u ∷ us) same h =
+    (λ j. h 0 t (omega arith) [] j ∷ copies-are items edges ls ts us (omega (arith, same)) (λ i d lt e. h (suc i) d (omega (arith, lt)) e) j)
 
-  pub lowered-in-pieces : ls' ≡ take_all (lower_offers rows ls all) ls → IsLowered ls ls' (All (IsSettled rows ls) all)
-  lowered-in-pieces is = subst (λ l. IsLowered ls l (All (IsSettled rows ls) all)) (sym is)
-      (let k = kept-all (lower_offers rows ls all) ls in
-      record {
-        less = k.less;
-        same = λ eq.
-            let s = k.same eq in
-            let quiet = split-flat (λ p. is_lower ls p ≡ false) (λ u. all_offers ls u (row_at rows u)) all (none-passes (is_lower ls) (flat_map (λ u. all_offers ls u (row_at rows u)) all) s.1) in
-            (s.0, λ i d lt. settled-of (get_or all i d) (quiet i d lt));
-      })
+-- what the copies offer, by what they have
+pub offered-are : {T U : Type 0} (items : T → List ℕ) (edges : U → List (ℕ × ℕ)) (ls : List ℕ) (ts : List T) (us : List U) → map items ts ≡ map (λ u. take_edges (edges u) ls) us → flat_map (λ t. offered 0 (items t)) ts ≡ copied ls (map edges us)
+offered-are items edges ls ts us h = flat-map (offered 0) items ts ∙ (ap (flat_map (offered 0)) h ∙ (sym (flat-map (offered 0) (λ u. take_edges (edges u) ls) us) ∙ flat-map (λ es. offered 0 (take_edges es ls)) edges us))
+  where
+    flat-map : {X Y Z : Type 0} (f : Y → List Z) (h : X → Y) (xs : List X) → flat_map (λ x. f (h x)) xs ≡ flat_map f (map h xs)
+    flat-map f h [] = refl
+    flat-map f h (x ∷ xs) = ap (λ l. f (h x) ++ l) (flat-map f h xs)
+
+-- they are as long as the labels
+pub copies-long : {T U : Type 0} (items : T → List ℕ) (edges : U → List (ℕ × ℕ)) (ls : List ℕ) (ts : List T) (us : List U) → map items ts ≡ map (λ u. take_edges (edges u) ls) us → All (λ t. length (items t) ≡ length ls) ts
+copies-long items edges ls ts us h =
+    unmap (λ (l : List ℕ). length l ≡ length ls) items ts (subst (All (λ (l : List ℕ). length l ≡ length ls)) (sym h)
+    (All-map (λ (l : List ℕ). length l ≡ length ls) (λ u. take_edges (edges u) ls) us (λ k d lt. length-edges (edges (get_or us k d)) ls)))
+
+-- the edges of one piece are all of them
+pub one-piece : {U : Type 0} (edges : U → List (ℕ × ℕ)) (us : List U) (u : U) → length us ≡ 1 → u ≡ get_or us 0 u → flat_map edges us ≡ edges u
+one-piece edges [] u one is = absurd (omega (arith, one))
+one-piece edges (x ∷ []) u one is = append-nil (edges x) ∙ ap edges (sym is)
+one-piece edges (x ∷ y ∷ us) u one is = absurd (omega (arith, one))
+
+pub all-are : {U : Type 0} (edges : U → List (ℕ × ℕ)) (us : List U) → flat_map edges us ≡ all_of (map edges us)
+all-are edges [] = refl
+all-are edges (u ∷ us) = ap (λ l. edges u ++ l) (all-are edges us)

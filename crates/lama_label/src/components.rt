@@ -3,22 +3,25 @@
 ghost use Rattle.std.specs.Prelude.{◌≡◌, ◌≤◌, IfOk, length};
 ghost use Rattle.std.specs.List.{range_with_len};
 ghost use Rattle.lama_model.specs.Row.{graph_of_rows};
-ghost use Rattle.lama_label.specs.Labels.{labels};
+ghost use Rattle.lama_model.specs.Labels.{labels};
 
-use crate::lowering::{lower, total};
+use crate::lowering::{edges_in_pieces, lower, total};
 use lama_base::Gate;
 use lama_model::Rows;
 use std::alloc::{AllocError, Global};
 use std::thread::Threads;
 
+// A graph of fewer vertices is done in place: a thread takes longer to start than it would save.
+const FEW: u32 = 400;
+
 /// The label of each vertex, by its number: the least vertex of its weak component, which is all that walks lead to that
 /// may take each edge in either direction.
 ///
-/// In each round every edge offers to its ends, and to their labels, the label of the label of the other end, and every
-/// vertex takes the label of its label (FastSV: Zhang, Azad and Hu, FastSV: A Distributed-Memory Connected Component
-/// Algorithm with Fast Convergence, 2020). A round costs the vertices and the edges. With one worker, or for few vertices,
-/// it is done in place and takes no memory; else in a piece for each worker, each of which reaches the gate before its
-/// work and gives a list of what is lower. The only error is want of memory.
+/// The edges are put into lists first, of eight bytes for each. In each round every edge offers to its ends, and to their
+/// labels, the lower one of the labels of their labels (after FastSV: Zhang, Azad and Hu, FastSV: A Distributed-Memory
+/// Connected Component Algorithm with Fast Convergence, 2020). A round costs the vertices and the edges. With one worker,
+/// or for few vertices, it is done in place and takes no memory; else in a piece for each worker, each of which reaches the
+/// gate before its work and has a copy of the labels. The only error is want of memory.
 pub fn labels<T: Threads + Sync, R: Rows + Sync, G: Gate + Sync>(
     rt: &T,
     alloc: Global,
@@ -33,11 +36,14 @@ where
     requires few { workers ≤ 16 }
     ensures { IfOk result (λ v. v.items ≡ labels (graph_of_rows (R.rows rows.now))) }
 {
-    let mut labels = numbers_below(alloc, rows.count())?;
+    let count = rows.count();
+    let pieces = if count < FEW { 1 } else { workers };
+    let edges = edges_in_pieces(rt, alloc, rows, pieces, gate)?;
+    let mut labels = numbers_below(alloc, count)?;
     let mut sum = total(&labels);
     let mut changed = true;
     while changed {
-        lower(rt, alloc, rows, &mut labels, workers, gate)?;
+        lower(rt, alloc, &edges, &mut labels, gate)?;
         let now = total(&labels);
         changed = now < sum;
         sum = now;

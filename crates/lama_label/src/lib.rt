@@ -2,7 +2,6 @@
 #![tactic(auto)]
 
 mod components;
-pub mod laws;
 mod lowering;
 
 pub use components::labels;

@@ -1,10 +1,13 @@
 // A round in which labels are lowered.
 //
-// It is done in place, or in pieces: then the pieces find what is lower, and the labels are written after them.
-ghost use Rattle.std.specs.Prelude.{◌≡◌, ◌<◌, ◌-◌, ◌≤◌, ◌++◌, ℕ, ◌∷◌, [], All, IfOk, OnOk, drop, filter, length, slice_index, sum, take};
+// The edges are put into lists first, one for each piece of the vertices, so that no round walks the rows again. A round
+// is done in place where there is one list, or where there are few edges. Else each list is done in a copy of the labels,
+// and then the lower one of what the copies have is taken for each vertex.
+ghost use Rattle.std.specs.Prelude.{◌≡◌, ◌<◌, ◌-◌, ◌≤◌, ◌++◌, ℕ, List, All, IfOk, OnOk, drop, length, map, slice_index, slice_index_or, sum, take};
 ghost use Rattle.std.specs.List.{flat_map, range_with_len};
-ghost use Rattle.lama_model.specs.Row.{row_at, graph_of_rows};
-ghost use Rattle.lama_label.specs.Lowering.{second, offers, all_offers, is_lower, take_all, take_vertices, AreLow, IsSettled, IsLowered};
+ghost use Rattle.lama_model.specs.Graph.{Graph};
+ghost use Rattle.lama_model.specs.Row.{row_at};
+ghost use Rattle.lama_label.specs.Lowering.{second, take_all, take_own, edges_from, offered, AreLow, AreEdgesOf, AreSettled, IsLowered};
 ghost use Rattle.lama_label.specs.Lowering as seen;
 
 use lama_base::Gate;
@@ -12,9 +15,6 @@ use lama_model::Rows;
 use lama_work::map_pieces;
 use std::alloc::{AllocError, Global};
 use std::thread::Threads;
-
-// A graph of fewer vertices is done in place: a thread takes longer to start than it would save.
-const FEW: usize = 400;
 
 // The label of a vertex that is there, and else 0.
 #[inline(always)]
@@ -35,67 +35,6 @@ fn second(labels: &[u32], v: u32) -> u32
     label_of(labels, label_of(labels, v))
 }
 
-// Puts an offer at the end, where it is lower than the label of its vertex.
-#[inline(always)]
-fn push_lower(
-    labels: &[u32],
-    v: u32,
-    label: u32,
-    found: &mut Vec<(u32, u32)>,
-) -> Result<(), AllocError>
-    ensures { OnOk result (found.new.items ≡ found.old.items ++ filter (is_lower labels.now) ((v, label) ∷ [])) }
-{
-    if label < label_of(labels, v) {
-        found.push((v, label))?;
-    }
-    Ok(())
-}
-
-// Puts the lower offers of an edge at the end.
-#[inline(always)]
-fn push_edge(labels: &[u32], u: u32, v: u32, found: &mut Vec<(u32, u32)>) -> Result<(), AllocError>
-    ensures { OnOk result (found.new.items ≡ found.old.items ++ filter (is_lower labels.now) (offers labels.now u v)) }
-{
-    let ours = second(labels, u);
-    let theirs = second(labels, v);
-    push_lower(labels, u, theirs, found)?;
-    push_lower(labels, label_of(labels, u), theirs, found)?;
-    push_lower(labels, v, ours, found)?;
-    push_lower(labels, label_of(labels, v), ours, found)
-}
-
-// Puts the lower offers of a vertex and of the edges that leave it at the end.
-fn push_vertex<R: Rows>(
-    rows: &R,
-    labels: &[u32],
-    u: u32,
-    found: &mut Vec<(u32, u32)>,
-) -> Result<(), AllocError>
-    requires { u < length (R.rows rows.now) }
-    ensures { OnOk result (found.new.items ≡ found.old.items ++ filter (is_lower labels.now) (all_offers labels.now u (row_at (R.rows rows.now) u))) }
-{
-    push_lower(labels, u, second(labels, u), found)?;
-    push_row(rows, labels, u, found)
-}
-
-// Puts the lower offers of the edges that leave a vertex at the end.
-fn push_row<R: Rows>(
-    rows: &R,
-    labels: &[u32],
-    u: u32,
-    found: &mut Vec<(u32, u32)>,
-) -> Result<(), AllocError>
-    requires { u < length (R.rows rows.now) }
-    ensures { OnOk result (found.new.items ≡ found.old.items ++ filter (is_lower labels.now) (flat_map (λ p. offers labels.now u p.0) (row_at (R.rows rows.now) u))) }
-{
-    let mut at = rows.start(u);
-    while let Some((target, _, rest)) = rows.next(at) {
-        push_edge(labels, u, target, found)?;
-        at = rest;
-    }
-    Ok(())
-}
-
 // Takes an offer, where it is lower than the label of its vertex.
 #[inline(always)]
 fn take_one(labels: &mut [u32], v: u32, label: u32)
@@ -106,77 +45,133 @@ fn take_one(labels: &mut [u32], v: u32, label: u32)
     }
 }
 
-// Takes these offers one after another.
-fn take_offers(labels: &mut [u32], offers: &[(u32, u32)])
-    ensures { labels.new ≡ take_all offers.now labels.old }
-{
-    for &(v, label) in offers {
-        take_one(labels, v, label);
-    }
-}
-
 // Takes the offers of an edge.
 #[inline(always)]
 fn take_edge(labels: &mut [u32], u: u32, v: u32)
     ensures { labels.new ≡ seen.take_edge u v labels.old }
 {
-    let ours = second(labels, u);
-    let theirs = second(labels, v);
+    let low = second(labels, u).min(second(labels, v));
     let first = label_of(labels, u);
     let other = label_of(labels, v);
-    take_one(labels, u, theirs);
-    take_one(labels, first, theirs);
-    take_one(labels, v, ours);
-    take_one(labels, other, ours);
+    take_one(labels, u, low);
+    take_one(labels, first, low);
+    take_one(labels, v, low);
+    take_one(labels, other, low);
 }
 
-// Takes the offers of a vertex and of the edges that leave it.
-fn take_vertex<R: Rows>(rows: &R, labels: &mut [u32], u: u32)
-    requires { u < length (R.rows rows.now) }
-    ensures { labels.new ≡ seen.take_vertex (R.rows rows.now) u labels.old }
+// Takes the offers of these edges, one edge after another.
+fn take_edges(labels: &mut [u32], edges: &[(u32, u32)])
+    ensures { labels.new ≡ seen.take_edges edges.now labels.old }
 {
-    take_one(labels, u, second(labels, u));
+    for &(u, v) in edges {
+        take_edge(labels, u, v);
+    }
+}
+
+// Takes the offers of these lists of edges, one list after another.
+fn take_lists(labels: &mut [u32], lists: &[Vec<(u32, u32)>])
+    ensures { labels.new ≡ seen.take_edges (flat_map (λ list. list.items) lists.now) labels.old }
+{
+    for list in lists {
+        take_edges(labels, list);
+    }
+}
+
+// Whether a list has so many edges that a copy of the labels of so many vertices costs less than they do.
+fn are_many(lists: &[Vec<(u32, u32)>], vertices: usize) -> bool
+    requires { 0 < length lists.now }
+{
+    lists[0].len() >= vertices / 2
+}
+
+// Gives each vertex the label of its label, in rising order. Since a label is no greater than its vertex, it has its own
+// last label by then, so one time is enough.
+fn shorten(labels: &mut [u32])
+    requires { length labels.old ≤ 4194304 }
+    ensures { labels.new ≡ take_own (range_with_len 0 (length labels.old)) labels.old }
+{
+    for v in 0..labels.len() as u32 {
+        let label = second(labels, v);
+        take_one(labels, v, label);
+    }
+}
+
+// The labels after these edges, as a copy.
+fn lowered_copy(alloc: Global, labels: &[u32], edges: &[(u32, u32)]) -> Result<Vec<u32>, AllocError>
+    ensures { IfOk result (λ v. v.items ≡ seen.take_edges edges.now labels.now) }
+{
+    let mut copy = Vec::from_slice(alloc, labels)?;
+    take_edges(&mut copy, edges);
+    Ok(copy)
+}
+
+// Takes each label of the copy, where it is lower than that of its vertex.
+fn take_copy(labels: &mut [u32], copy: &[u32])
+    requires { length copy.now < 4294967296 }
+    ensures { labels.new ≡ take_all (offered 0 copy.now) labels.old }
+{
+    for v in 0..copy.len() {
+        take_one(labels, v as u32, copy[v]);
+    }
+}
+
+// Takes those of each of these copies.
+fn take_copies(labels: &mut [u32], copies: &[Vec<u32>])
+    requires { All (λ copy. length copy.items < 4294967296) copies.now }
+    ensures { labels.new ≡ take_all (flat_map (λ copy. offered 0 copy.items) copies.now) labels.old }
+{
+    for copy in copies {
+        take_copy(labels, copy);
+    }
+}
+
+// Puts the edges that leave a vertex at the end.
+fn push_row<R: Rows>(rows: &R, u: u32, found: &mut Vec<(u32, u32)>) -> Result<(), AllocError>
+    requires { u < length (R.rows rows.now) }
+    ensures { OnOk result (found.new.items ≡ found.old.items ++ map (λ p. (u, p.0)) (row_at (R.rows rows.now) u)) }
+{
     let mut at = rows.start(u);
     while let Some((target, _, rest)) = rows.next(at) {
-        take_edge(labels, u, target);
+        found.push((u, target))?;
         at = rest;
     }
+    Ok(())
 }
 
-// Takes the offers of all vertices and edges.
-pub(crate) fn take_all_in_place<R: Rows>(rows: &R, labels: &mut [u32])
-    ensures { labels.new ≡ take_vertices (R.rows rows.now) (range_with_len 0 (length (R.rows rows.now))) labels.old }
+// How many edges leave the vertices from `first` to before `end`, so that there is room for them at once.
+fn count_between<R: Rows>(rows: &R, first: u32, end: u32) -> usize
+    requires { end ≤ length (R.rows rows.now) }
 {
-    for u in 0..rows.count() {
-        take_vertex(rows, labels, u);
+    let mut total = 0;
+    for v in first..end {
+        total += rows.degree(v) as usize;
     }
+    total
 }
 
-// The lower offers of the vertices from `start` to before `end`, and of the edges that leave them.
-fn lower_offers<R: Rows>(
+// The edges that leave the vertices from `start` to before `end`, as source and target.
+fn edges_between<R: Rows>(
     alloc: Global,
     rows: &R,
-    labels: &[u32],
     start: u32,
     end: u32,
 ) -> Result<Vec<(u32, u32)>, AllocError>
     requires order { start ≤ end }
     requires within { end ≤ length (R.rows rows.now) }
-    ensures { IfOk result (λ v. v.items ≡ seen.lower_offers (R.rows rows.now) labels.now (take (end - start) (drop start (range_with_len 0 (length (R.rows rows.now)))))) }
+    ensures { IfOk result (λ v. v.items ≡ edges_from (R.rows rows.now) (take (end - start) (drop start (range_with_len 0 (length (R.rows rows.now)))))) }
 {
-    let mut found = Vec::new(alloc);
+    let mut found = Vec::with_capacity(alloc, count_between(rows, start, end))?;
     for u in start..end {
-        push_vertex(rows, labels, u, &mut found)?;
+        push_row(rows, u, &mut found)?;
     }
     Ok(found)
 }
 
-// The lower offers of all vertices and edges, a list for each piece of the vertices.
-fn in_pieces<T: Threads + Sync, R: Rows + Sync, G: Gate + Sync>(
+// All edges, a list for each piece of the vertices that they leave.
+pub(crate) fn edges_in_pieces<T: Threads + Sync, R: Rows + Sync, G: Gate + Sync>(
     rt: &T,
     alloc: Global,
     rows: &R,
-    labels: &[u32],
     workers: u32,
     gate: &G,
 ) -> Result<Vec<Vec<(u32, u32)>>, AllocError>
@@ -184,7 +179,8 @@ where
     R::At: Send,
     requires some { 1 ≤ workers }
     requires few { workers ≤ 16 }
-    ensures { IfOk result (λ v. flat_map (λ piece. piece.items) v.items ≡ seen.lower_offers (R.rows rows.now) labels.now (range_with_len 0 (length (R.rows rows.now)))) }
+    ensures pieces { IfOk result (λ v. length v.items ≡ workers) }
+    ensures edges { IfOk result (λ v. flat_map (λ piece. piece.items) v.items ≡ edges_from (R.rows rows.now) (range_with_len 0 (length (R.rows rows.now)))) }
 {
     map_pieces(
         rt,
@@ -194,57 +190,78 @@ where
         gate,
         &|_: u32, start: u32, end: u32| -> Result<Vec<(u32, u32)>, AllocError>
             requires { (start ≤ end) × (end ≤ length (R.rows rows.now)) }
-            ensures { IfOk result (λ v. v.items ≡ seen.lower_offers (R.rows rows.entry.now) labels.entry.now (take (end - start) (drop start (range_with_len 0 (length (R.rows rows.entry.now)))))) }
-        { lower_offers(alloc, rows, labels, start, end) },
+            ensures { IfOk result (λ v. v.items ≡ edges_from (R.rows rows.entry.now) (take (end - start) (drop start (range_with_len 0 (length (R.rows rows.entry.now)))))) }
+        { edges_between(alloc, rows, start, end) },
     )
 }
 
-// Takes the lower offers of all vertices and edges, found in pieces.
-fn take_all_in_pieces<T: Threads + Sync, R: Rows + Sync, G: Gate + Sync>(
+// The labels after each of these lists of edges, each as a copy.
+fn copies_of<T: Threads + Sync, G: Gate + Sync>(
     rt: &T,
     alloc: Global,
-    rows: &R,
+    edges: &[Vec<(u32, u32)>],
+    labels: &[u32],
+    gate: &G,
+) -> Result<Vec<Vec<u32>>, AllocError>
+    requires some { 1 ≤ length edges.now }
+    requires few { length edges.now ≤ 16 }
+    ensures { IfOk result (λ v. map (λ copy. copy.items) v.items ≡ map (λ piece. seen.take_edges piece.items labels.now) edges.now) }
+{
+    let pieces = edges.len() as u32;
+    map_pieces(
+        rt,
+        alloc,
+        pieces,
+        pieces,
+        gate,
+        &|i: u32, _: u32, _: u32| -> Result<Vec<u32>, AllocError>
+            requires { i < length edges.now }
+            ensures { IfOk result (λ v. (d : List (ℕ × ℕ)) → v.items ≡ seen.take_edges (slice_index_or (map (λ piece. piece.items) edges.entry.now) i d) labels.entry.now) }
+        { lowered_copy(alloc, labels, &edges[i as usize]) },
+    )
+}
+
+// A round: the labels are lower afterwards, or no edge offers a lower one.
+pub(crate) fn lower<T: Threads + Sync, G: Gate + Sync>(
+    rt: &T,
+    alloc: Global,
+    edges: &[Vec<(u32, u32)>],
     labels: &mut [u32],
-    workers: u32,
     gate: &G,
 ) -> Result<(), AllocError>
-where
-    R::At: Send,
-    requires some { 1 ≤ workers }
-    requires few { workers ≤ 16 }
-    ensures { OnOk result (labels.new ≡ take_all (seen.lower_offers (R.rows rows.now) labels.old (range_with_len 0 (length (R.rows rows.now)))) labels.old) }
+    requires some { 1 ≤ length edges.now }
+    requires few { length edges.now ≤ 16 }
+    requires small { length labels.old ≤ 4194304 }
+    ensures low { OnOk result ((g : Graph) → AreLow g labels.old → AreEdgesOf g (flat_map (λ piece. piece.items) edges.now) → AreLow g labels.new) }
+    ensures lowered { OnOk result (IsLowered labels.old labels.new (AreSettled (flat_map (λ piece. piece.items) edges.now) labels.old)) }
 {
-    let pieces = in_pieces(rt, alloc, rows, labels, workers, gate)?;
-    for piece in &pieces {
-        take_offers(labels, piece);
-    }
+    lower_ends(rt, alloc, edges, labels, gate)?;
+    shorten(labels);
     Ok(())
 }
 
-// A round: the labels are lower afterwards, or settled.
-pub(crate) fn lower<T: Threads + Sync, R: Rows + Sync, G: Gate + Sync>(
+// Takes what the edges offer, in place or, where there are many of them, in pieces.
+fn lower_ends<T: Threads + Sync, G: Gate + Sync>(
     rt: &T,
     alloc: Global,
-    rows: &R,
+    edges: &[Vec<(u32, u32)>],
     labels: &mut [u32],
-    workers: u32,
     gate: &G,
 ) -> Result<(), AllocError>
-where
-    R::At: Send,
-    requires some { 1 ≤ workers }
-    requires few { workers ≤ 16 }
-    requires low { AreLow (graph_of_rows (R.rows rows.now)) labels.old }
-    ensures low { OnOk result (AreLow (graph_of_rows (R.rows rows.now)) labels.new) }
-    ensures lowered { OnOk result (IsLowered labels.old labels.new (All (IsSettled (R.rows rows.now) labels.old) (range_with_len 0 (length (R.rows rows.now))))) }
+    requires some { 1 ≤ length edges.now }
+    requires few { length edges.now ≤ 16 }
+    requires small { length labels.old ≤ 4194304 }
+    ensures len { OnOk result (length labels.new ≡ length labels.old) }
+    ensures low { OnOk result ((g : Graph) → AreLow g labels.old → AreEdgesOf g (flat_map (λ piece. piece.items) edges.now) → AreLow g labels.new) }
+    ensures lowered { OnOk result (IsLowered labels.old labels.new (AreSettled (flat_map (λ piece. piece.items) edges.now) labels.old)) }
 {
-    let _count = rows.count();
-    if workers == 1 || labels.len() < FEW {
-        take_all_in_place(rows, labels);
-        Ok(())
-    } else {
-        take_all_in_pieces(rt, alloc, rows, labels, workers, gate)
+    if edges.len() == 1 || !are_many(edges, labels.len()) {
+        take_lists(labels, edges);
+        return Ok(());
     }
+    let copies = copies_of(rt, alloc, edges, labels, gate)?;
+    take_copies(labels, &copies);
+    Ok(())
 }
 
 // The sum of the labels.

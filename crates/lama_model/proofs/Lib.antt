@@ -11,3 +11,7 @@ pub mod RowsOfGraph
 pub mod StandingLemmas
 pub mod JournalLaws
 pub mod Counting
+pub mod LevelLaw
+pub mod Leading
+pub mod Joined
+pub mod LabelLaw

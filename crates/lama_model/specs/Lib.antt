@@ -1,5 +1,7 @@
 pub mod Graph
 pub mod Row
+pub mod Levels
+pub mod Labels
 pub mod Change
 pub mod Bounds
 pub mod Fits

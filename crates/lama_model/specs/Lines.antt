@@ -1,6 +1,7 @@
 -- The lines that a script's commands print. Each ends with a line feed, and has one blank between two words.
-use Rattle.std.specs.Prelude.{ℕ, suc, List, [], ◌∷◌, ◌++◌, codes, decimal}
-use Rattle.std.specs.List.{flat_map}
+use Rattle.std.specs.Prelude.{ℕ, suc, ◌==◌, max, nat_eq, Bool, true, false, List, [], ◌∷◌, ◌++◌, length, map, fold, sum, codes, decimal, Option, None, Some}
+use Rattle.std.specs.List.{flat_map, filter_map, count_by}
+use Rattle.std.specs.Set.{distinct_count}
 use Rattle.lama_model.specs.Row.{edges_in}
 use Rattle.lama_model.specs.Script.{End}
 use Rattle.lama_model.specs.Script.End.{Whole, BadAt, TooMany}
@@ -48,6 +49,50 @@ edge_lines u (r ∷ rows) = flat_map (edge_line u) r ++ edge_lines (suc u) rows
 -- all edges of the snapshot k, with their number before them
 unfoldable pub edges_lines : ℕ → List (List (ℕ × ℕ)) → List ℕ
 edges_lines k rows = codes "edges " ++ decimal k ++ codes " " ++ decimal (edges_in rows) ++ codes "\n" ++ edge_lines 0 rows
+
+-- the greatest of the numbers, or 0 where there is none
+abbrev pub greatest : List ℕ → ℕ
+greatest xs = fold max 0 xs
+
+-- how many of the numbers are x
+abbrev pub times : List ℕ → ℕ → ℕ
+times xs x = count_by (λ y. y == x) xs
+
+-- a line for each vertex from v on, with what is said of it
+abbrev pub vertex_lines : {A : Type 0} → (A → List ℕ) → ℕ → List A → List ℕ
+vertex_lines text v [] = []
+vertex_lines text v (x ∷ xs) = decimal v ++ codes " " ++ text x ++ codes "\n" ++ vertex_lines text (suc v) xs
+
+-- a level, or a dash where there is none
+abbrev pub level_text : Option ℕ → List ℕ
+level_text None = codes "-"
+level_text (Some d) = decimal d
+
+-- the levels that there are
+abbrev pub found_levels : List (Option ℕ) → List ℕ
+found_levels levels = filter_map (λ level. level) levels
+
+-- the levels from s in the snapshot k, a vertex a line, or how many vertices are reached, their greatest level and the sum of all levels
+unfoldable pub levels_text : ℕ → ℕ → List (Option ℕ) → Bool → List ℕ
+levels_text k s levels false = codes "bfs " ++ decimal k ++ codes " " ++ decimal s ++ codes "\n" ++ vertex_lines level_text 0 levels
+levels_text k s levels true =
+    codes "bfs " ++ decimal k ++ codes " " ++ decimal s ++ codes " sum " ++ decimal (length (found_levels levels)) ++ codes " "
+    ++ decimal (greatest (found_levels levels)) ++ codes " " ++ decimal (sum (found_levels levels)) ++ codes "\n"
+
+-- how many different labels there are
+abbrev pub count_labels : List ℕ → ℕ
+count_labels labels = distinct_count nat_eq labels
+
+-- the greatest number of vertices with one label
+abbrev pub most_with_one : List ℕ → ℕ
+most_with_one labels = greatest (map (times labels) labels)
+
+-- the labels in the snapshot k: how many there are and each vertex a line, or how many, how often the most frequent one stands and the sum of all
+unfoldable pub labels_text : ℕ → List ℕ → Bool → List ℕ
+labels_text k labels false = codes "labels " ++ decimal k ++ codes " " ++ decimal (count_labels labels) ++ codes "\n" ++ vertex_lines decimal 0 labels
+labels_text k labels true =
+    codes "labels " ++ decimal k ++ codes " sum " ++ decimal (count_labels labels) ++ codes " " ++ decimal (most_with_one labels) ++ codes " "
+    ++ decimal (sum labels) ++ codes "\n"
 
 -- the last line, for a run whose journal has that many entries
 unfoldable pub last_line : ℕ → End → List ℕ

@@ -6,7 +6,7 @@ use Rattle.lama_model.specs.declared.calls.Write.TheVariants.{Vertices, Add, Rem
 use Rattle.lama_model.specs.declared.commands.Command.{Command}
 use Rattle.lama_model.specs.declared.commands.Command.TheVariants.{Write as Writes, Checkpoint as Checkpoints, Read as Reads}
 use Rattle.lama_model.specs.declared.commands.Read.{Read}
-use Rattle.lama_model.specs.declared.commands.Read.TheVariants.{Row, Edges}
+use Rattle.lama_model.specs.declared.commands.Read.TheVariants.{Row, Edges, Bfs, Labels}
 
 abbrev pub is_line_feed : ℕ → Bool
 is_line_feed b = b == 10
@@ -102,12 +102,31 @@ abbrev pub edges_read : List (List ℕ) → Option Read
 edges_read [] = Some Edges
 edges_read (more ∷ args) = None
 
+-- whether `sum` stands after a command's words, or nothing
+abbrev pub sum_of : List (List ℕ) → Option Bool
+sum_of [] = Some false
+sum_of (word ∷ []) = if bytes_eq word (codes "sum") then Some true else None
+sum_of (word ∷ more ∷ args) = None
+
+-- bfs S, where S is a number
+abbrev pub bfs_of : Option Bool → Option ℕ → Option Read
+bfs_of sum s = option_and_then (λ sum. option_map (λ s. Bfs s sum) s) sum
+
+abbrev pub bfs_read : List (List ℕ) → Option Read
+bfs_read [] = None
+bfs_read (s ∷ args) = bfs_of (sum_of args) (number s)
+
+abbrev pub labels_read : List (List ℕ) → Option Read
+labels_read args = option_map (λ sum. Labels sum) (sum_of args)
+
 -- what is read by a word and the words after it
 unfoldable pub read_of : List ℕ → List (List ℕ) → Option Read
 read_of word args =
     if bytes_eq word (codes "row") then row_read args
     else (if bytes_eq word (codes "edges") then edges_read args
-    else None)
+    else (if bytes_eq word (codes "bfs") then bfs_read args
+    else (if bytes_eq word (codes "labels") then labels_read args
+    else None)))
 
 -- what stands behind an at sign at the front of a word
 abbrev pub behind_at : List ℕ → Option (List ℕ)

@@ -6,14 +6,16 @@ use Rattle.lama_model.specs.Opening.{Opening}
 use Rattle.lama_model.specs.Journal.{reply, graph}
 use Rattle.lama_model.specs.Script.{Item, Script, script}
 use Rattle.lama_model.specs.Script.Item.{One}
-use Rattle.lama_model.specs.Lines.{reply_line, refusal_line, row_line, edges_lines, last_line}
+use Rattle.lama_model.specs.Lines.{reply_line, refusal_line, row_line, edges_lines, levels_text, labels_text, last_line}
+use Rattle.lama_model.specs.Levels.{levels}
+use Rattle.lama_model.specs.Labels.{labels}
 use Rattle.lama_model.specs.declared.calls.Call.{Call}
 use Rattle.lama_model.specs.declared.calls.Call.TheVariants.{Write as WriteCall, Checkpoint, Look, LookAt}
 use Rattle.lama_model.specs.declared.calls.Entry.{Entry}
 use Rattle.lama_model.specs.declared.commands.Command.{Command}
 use Rattle.lama_model.specs.declared.commands.Command.TheVariants.{Write as Writes, Checkpoint as Checkpoints, Read as Reads}
 use Rattle.lama_model.specs.declared.commands.Read.{Read}
-use Rattle.lama_model.specs.declared.commands.Read.TheVariants.{Row, Edges}
+use Rattle.lama_model.specs.declared.commands.Read.TheVariants.{Row, Edges, Bfs, Labels}
 use Rattle.lama_model.specs.declared.answers.Reply.{Reply}
 use Rattle.lama_model.specs.declared.answers.Reply.TheVariants.{Accepted, Count, Snapshot, Kept, Refused}
 use Rattle.lama_model.specs.declared.answers.Refusal.TheVariants.{UnknownVertex}
@@ -40,6 +42,8 @@ journal_after o journal caller command = journal ++ map (entry caller) (calls_of
 unfoldable pub read_lines : Graph → ℕ → Read → List ℕ
 read_lines g k (Row v) = if nat_lt v g.count then row_line k v (row g v) else refusal_line (UnknownVertex v g.count)
 read_lines g k Edges = edges_lines k (rows_of g)
+read_lines g k (Bfs s sum) = if nat_lt s g.count then levels_text k s (levels g s) sum else refusal_line (UnknownVertex s g.count)
+read_lines g k (Labels sum) = labels_text k (labels g) sum
 
 -- what a reading command prints for the reply to its call, after the journal that ends with that call
 abbrev pub reading_lines : Opening → List Entry → Command → Read → Reply → List ℕ

@@ -9,6 +9,10 @@ pub enum Read {
     Row { v: u32 },
     /// All edges.
     Edges,
+    /// How far each vertex is from the vertex `s`, or, where `sum` is true, how far they are in all.
+    Bfs { s: u32, sum: bool },
+    /// The weak component of each vertex, or, where `sum` is true, how many and how large they are.
+    Labels { sum: bool },
 }
 
 /// One command of a script.

@@ -33,6 +33,18 @@ pub fn texts()
         codes "vertices 1\nunknown vertex 5 of 1\nunknown vertex 2 of 1\nunknown vertex 9 of 0\nfull vertices\nend 5\n" }
 {}
 
+/// What is read of a whole graph: levels and labels, each vertex a line or summed up.
+pub fn analyses()
+    ensures path { text empty_opening (codes "vertices 5\nadd 0 1\nadd 1 2\nadd 2 3\ncheckpoint\nbfs 0\nbfs 0 sum\nlabels\nlabels sum\n")
+        ≡ codes "vertices 5\nsnapshot 1\nbfs 1 0\n0 0\n1 1\n2 2\n3 3\n4 -\nbfs 1 0 sum 4 3 6\nlabels 1 2\n0 0\n1 0\n2 0\n3 0\n4 4\nlabels 1 sum 2 4 4\nend 9\n" }
+    // A walk goes along the edges alone, and a component in either direction: {0, 3}, {1} and {2, 4, 5}.
+    ensures ways { text empty_opening (codes "vertices 6\nadd 5 4\nadd 4 2\nadd 3 0\ncheckpoint\nbfs 5 sum\nbfs 2 sum\nlabels sum\n@0 bfs 0\n@0 labels\n@0 labels sum\n")
+        ≡ codes "vertices 6\nsnapshot 1\nbfs 1 5 sum 3 2 3\nbfs 1 2 sum 1 0 0\nlabels 1 sum 3 3 7\nunknown vertex 0 of 0\nlabels 0 0\nlabels 0 sum 0 0 0\nend 11\n" }
+    // Of two walks the shorter one counts, and an edge that was deleted is in the older snapshot alone.
+    ensures shorter { text empty_opening (codes "vertices 4\nadd 0 1\nadd 1 2\nadd 2 3\nadd 0 3\ncheckpoint\ndel 0 3\ncheckpoint\n@1 bfs 0 sum\nbfs 0 sum\nbfs 4\n")
+        ≡ codes "vertices 4\nsnapshot 1\nsnapshot 2\nbfs 1 0 sum 4 2 4\nbfs 2 0 sum 4 3 6\nunknown vertex 4 of 4\nend 11\n" }
+{}
+
 /// Three snapshots of two vertices: graphs, numbers, floors and prefixes of their journal.
 pub fn journals()
     ensures graphs { map (λ k. row (graph empty_opening busy k) 0) (0 ∷ 1 ∷ 2 ∷ 3 ∷ [])

@@ -1,8 +1,10 @@
 //! Laws of the definitions alone, for every opening and every journal.
 
 ghost use Rattle.std.specs.Prelude.{◌≡◌, ◌+◌, ◌<◌, ◌≤◌, ◌++◌, [], ◌∷◌, ℕ, List};
-ghost use Rattle.lama_model.specs.Graph.{Graph};
-ghost use Rattle.lama_model.specs.Row.{row};
+ghost use Rattle.lama_model.specs.Graph.{Graph, IsGraph};
+ghost use Rattle.lama_model.specs.Row.{row, AreSame};
+ghost use Rattle.lama_model.specs.Levels.{AreLevels, levels};
+ghost use Rattle.lama_model.specs.Labels.{AreLabels, AreFirst, labels};
 ghost use Rattle.lama_model.specs.Change.{change_between, graph_after, row_after};
 ghost use Rattle.lama_model.specs.Opening.{Opening, last_number};
 ghost use Rattle.lama_model.specs.Journal.{begun, standing, newest, oldest, floor_at, graph, change, cut};
@@ -40,4 +42,27 @@ pub fn numbers_never_fall()
     ensures floors { (o : Opening) (journal more : List Entry) (j : ℕ) → floor_at o journal j ≤ floor_at o (journal ++ more) j }
     ensures installs { (o : Opening) (journal : List Entry) (caller i k : ℕ) →
         graph o (journal ++ record { caller = caller; call = Install i } ∷ []) k ≡ graph o journal k }
+{}
+
+/// The level of a vertex is the least number of edges of a walk to it, and there is none where no walk leads to it.
+pub fn levels_are_least_walks()
+    ensures { (g : Graph) (s : ℕ) → IsGraph g → AreLevels g s (levels g s) }
+{}
+
+/// Graphs with the same rows have the same levels.
+pub fn levels_are_of_rows()
+    ensures { (g h : Graph) (s : ℕ) → AreSame g h → levels g s ≡ levels h s }
+{}
+
+/// The label of a vertex is the least one from which a walk leads to it that may take each edge in either direction, and
+/// each vertex has one label, which names its component: the label of a label is that label itself.
+pub fn labels_are_least_vertices()
+    ensures are { (g : Graph) → IsGraph g → AreLabels g (labels g) }
+    ensures only { (g : Graph) (ls : List ℕ) → IsGraph g → AreLabels g ls → ls ≡ labels g }
+    ensures first { (g : Graph) → IsGraph g → AreFirst (labels g) }
+{}
+
+/// Graphs with the same rows have the same labels.
+pub fn labels_are_of_rows()
+    ensures { (g h : Graph) → IsGraph h → AreSame g h → labels g ≡ labels h }
 {}

@@ -1,11 +1,8 @@
 //! A gate at which two pieces of a computation wait for each other.
 
-use lama_base::Gate;
+use lama_base::{Gate, PIECE_BEGINS};
 use std::sync::atomic::{AtomicBool, Ordering};
 use std::thread::yield_now;
-
-/// The point at which a piece of a computation begins.
-const PIECE_BEGINS: u32 = 4;
 
 /// So many turns a piece waits for the other one, and at each it yields its thread.
 const TURNS: u32 = 10_000_000;

@@ -1,7 +1,7 @@
 -- Texts that are appended piece by piece.
-use Rattle.std.proofs.Common.{◌≡◌, sym, ap, ◌∙◌, ℕ, List, ◌++◌, Result, Ok, Err, OnOk, append_assoc, codes, decimal}
+use Rattle.std.proofs.Common.{◌≡◌, sym, ap, ◌∙◌, ℕ, List, ◌++◌, length, sum, true, false, Option, Result, Ok, Err, OnOk, append_assoc, codes, decimal}
 use Rattle.lama_model.specs.Row.{edges_in}
-use Rattle.lama_model.specs.Lines.{refusal_line, edges_lines, edge_lines}
+use Rattle.lama_model.specs.Lines.{refusal_line, edges_lines, edge_lines, levels_text, labels_text, vertex_lines, found_levels, greatest, count_labels, most_with_one}
 use Rattle.lama_model.specs.declared.answers.Refusal.TheVariants.{UnknownVertex, NoSnapshot}
 
 -- a piece after what was appended before
@@ -34,3 +34,28 @@ pub edges-pieces : (k : ℕ) (rows : List (List (ℕ × ℕ))) → edges_lines k
     ((codes "edges " ++ decimal k) ++ (codes " " ++ decimal (edges_in rows) ++ codes "\n")) ++ edge_lines 0 rows
 unfolding edges_lines
 edges-pieces k rows = in_threes (codes "edges ") (decimal k) (codes " ") (decimal (edges_in rows)) (codes "\n") (edge_lines 0 rows)
+
+behind_one : (a b e f i g h j : List ℕ) → a ++ b ++ e ++ f ++ i ++ g ++ i ++ h ++ j ≡ (a ++ b) ++ (e ++ f ++ i ++ g ++ i ++ h ++ j)
+behind_one a b e f i g h j = simp append_assoc
+
+behind_two : (a b c d e f i g h j : List ℕ) → a ++ b ++ c ++ d ++ e ++ f ++ i ++ g ++ i ++ h ++ j ≡ ((a ++ b) ++ (c ++ d)) ++ (e ++ f ++ i ++ g ++ i ++ h ++ j)
+behind_two a b c d e f i g h j = simp append_assoc
+
+-- three numbers that sum something up, and the line's end
+abbrev pub totals_text : ℕ → ℕ → ℕ → List ℕ
+totals_text first second third = codes " sum " ++ decimal first ++ codes " " ++ decimal second ++ codes " " ++ decimal third ++ codes "\n"
+
+pub level_sum-pieces : (k s : ℕ) (levels : List (Option ℕ)) → levels_text k s levels true ≡
+    ((codes "bfs " ++ decimal k) ++ (codes " " ++ decimal s)) ++ totals_text (length (found_levels levels)) (greatest (found_levels levels)) (sum (found_levels levels))
+unfolding levels_text
+level_sum-pieces k s levels = behind_two (codes "bfs ") (decimal k) (codes " ") (decimal s) (codes " sum ") (decimal (length (found_levels levels))) (codes " ") (decimal (greatest (found_levels levels))) (decimal (sum (found_levels levels))) (codes "\n")
+
+pub labels-pieces : (k : ℕ) (labels : List ℕ) → labels_text k labels false ≡
+    ((codes "labels " ++ decimal k) ++ (codes " " ++ decimal (count_labels labels) ++ codes "\n")) ++ vertex_lines decimal 0 labels
+unfolding labels_text
+labels-pieces k labels = in_threes (codes "labels ") (decimal k) (codes " ") (decimal (count_labels labels)) (codes "\n") (vertex_lines decimal 0 labels)
+
+pub label_sum-pieces : (k : ℕ) (labels : List ℕ) → labels_text k labels true ≡
+    (codes "labels " ++ decimal k) ++ totals_text (count_labels labels) (most_with_one labels) (sum labels)
+unfolding labels_text
+label_sum-pieces k labels = behind_one (codes "labels ") (decimal k) (codes " sum ") (decimal (count_labels labels)) (codes " ") (decimal (most_with_one labels)) (decimal (sum labels)) (codes "\n")

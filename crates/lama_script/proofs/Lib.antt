@@ -1,4 +1,5 @@
 pub mod Appending
+pub mod Owning
 pub mod Returns
 pub mod Words
 pub mod Leading

@@ -2,7 +2,7 @@
 
 ghost use Rattle.std.specs.Prelude.{◌≡◌, ◌<◌, ◌^◌, [], ◌∷◌, ⊤, not, true, length, MatchOption, None, Some, IsTrue, ◌↔◌};
 ghost use Rattle.std.specs.List.{position};
-ghost use Rattle.lama_model.specs.Script.{words, number, vertices_command, add_command, del_command, weigh_command, checkpoint_command, row_read, edges_read, read_of, behind_at, reading_of, command_of, meaning, without_return};
+ghost use Rattle.lama_model.specs.Script.{words, number, vertices_command, add_command, del_command, weigh_command, checkpoint_command, row_read, edges_read, sum_of, bfs_read, labels_read, read_of, behind_at, reading_of, command_of, meaning, without_return};
 ghost use Rattle.lama_model.specs.Script as grammar;
 ghost use Rattle.lama_script.specs.Numbers.{IsFirstNumber, IsLeading};
 ghost use Rattle.lama_script.specs.Parsing.{answer_to};
@@ -78,8 +78,9 @@ fn first_word(bytes: &[u8]) -> Option<(&[u8], &[u8])>
     Some(bytes.split_at(end))
 }
 
-/// The value of decimal digits, or None where the word is no number of the script language.
-fn number(word: &[u8]) -> Option<u32>
+/// The value of decimal digits, or None where the word is no number: one or more digits, with a value of at most 2^32 - 1.
+/// Leading zeros are allowed. Linear in the word.
+pub fn number(word: &[u8]) -> Option<u32>
     ensures { result ≡ grammar.number word.now }
 {
     if word.is_empty() {
@@ -208,6 +209,10 @@ fn read(word: &[u8], args: &[u8]) -> Option<Read>
         row(args)
     } else if word == b"edges".as_slice() {
         edges(args)
+    } else if word == b"bfs".as_slice() {
+        bfs(args)
+    } else if word == b"labels".as_slice() {
+        labels(args)
     } else {
         None
     }
@@ -286,4 +291,29 @@ fn edges(args: &[u8]) -> Option<Read>
     ensures { result ≡ edges_read (words args.now) }
 {
     is_end(args).then_some(Read::Edges)
+}
+
+/// Whether the only word is `sum`, or there is none.
+fn sum(args: &[u8]) -> Option<bool>
+    ensures { result ≡ sum_of (words args.now) }
+{
+    let Some((word, rest)) = first_word(args) else {
+        return Some(false);
+    };
+    (word == b"sum".as_slice() && is_end(rest)).then_some(true)
+}
+
+fn bfs(args: &[u8]) -> Option<Read>
+    ensures { result ≡ bfs_read (words args.now) }
+{
+    let (source, args) = first_number(args)?;
+    let sum = sum(args)?;
+    Some(Read::Bfs { s: source?, sum })
+}
+
+fn labels(args: &[u8]) -> Option<Read>
+    ensures { result ≡ labels_read (words args.now) }
+{
+    let sum = sum(args)?;
+    Some(Read::Labels { sum })
 }

@@ -1,6 +1,7 @@
 //! The script language: a parser that takes one line at a time, and printers for what commands answer.
 #![tactic(auto)]
 
+mod analyses;
 mod grammar;
 pub mod item;
 pub mod parser;
@@ -8,6 +9,8 @@ pub mod printers;
 #[cfg(test)]
 mod tests;
 
+pub use analyses::{print_labels, print_levels};
+pub use grammar::number;
 pub use item::{Item, ScriptFault};
 pub use lama_model::{Command, Read};
 pub use parser::Parser;

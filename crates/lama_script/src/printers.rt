@@ -126,7 +126,7 @@ fn append_missing(out: &mut Vec<u8>, asked: u32, oldest: u32, newest: u32) -> Re
     append_text(out, b"\n")
 }
 
-fn append_text(out: &mut Vec<u8>, text: &[u8]) -> Result<(), AllocError>
+pub(crate) fn append_text(out: &mut Vec<u8>, text: &[u8]) -> Result<(), AllocError>
     ensures ok { OnOk result (out.new.items ≡ out.old.items ++ text.now) }
     ensures begins { take (vec_len out.old) out.new.items ≡ out.old.items }
 {
@@ -134,7 +134,7 @@ fn append_text(out: &mut Vec<u8>, text: &[u8]) -> Result<(), AllocError>
 }
 
 /// A text and a number.
-fn append_number(out: &mut Vec<u8>, text: &[u8], number: u64) -> Result<(), AllocError>
+pub(crate) fn append_number(out: &mut Vec<u8>, text: &[u8], number: u64) -> Result<(), AllocError>
     ensures ok { OnOk result (out.new.items ≡ out.old.items ++ (text.now ++ decimal number)) }
     ensures begins { take (vec_len out.old) out.new.items ≡ out.old.items }
 {
@@ -144,7 +144,7 @@ fn append_number(out: &mut Vec<u8>, text: &[u8], number: u64) -> Result<(), Allo
 }
 
 /// A text, a number and the line's end.
-fn append_named(out: &mut Vec<u8>, text: &[u8], number: u64) -> Result<(), AllocError>
+pub(crate) fn append_named(out: &mut Vec<u8>, text: &[u8], number: u64) -> Result<(), AllocError>
     ensures ok { OnOk result (out.new.items ≡ out.old.items ++ (text.now ++ decimal number ++ codes "\n")) }
     ensures begins { take (vec_len out.old) out.new.items ≡ out.old.items }
 {

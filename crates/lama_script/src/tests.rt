@@ -2,6 +2,7 @@
 
 ghost use Rattle.std.specs.Prelude.{◌≤◌, List, [], ◌∷◌, drop};
 
+use crate::analyses::{print_labels, print_levels};
 use crate::item::{Item, ScriptFault};
 use crate::parser::Parser;
 use crate::printers::{print_edges, print_reply, print_row};
@@ -53,6 +54,42 @@ fn row_at(k: u32, v: u32) -> Answer {
         at: Some(k),
         what: Read::Row { v },
     })
+}
+
+fn bfs(at: Option<u32>, s: u32, sum: bool) -> Answer {
+    says(Command::Read {
+        at,
+        what: Read::Bfs { s, sum },
+    })
+}
+
+fn labels(at: Option<u32>, sum: bool) -> Answer {
+    says(Command::Read {
+        at,
+        what: Read::Labels { sum },
+    })
+}
+
+#[test]
+fn levels_and_labels_are_asked_for_whole_or_summed_up(rt: HostRuntime) {
+    assert_eq!(rt; answer(b"bfs 3"), bfs(None, 3, false));
+    assert_eq!(rt; answer(b" bfs\t003  sum\r"), bfs(None, 3, true));
+    assert_eq!(rt; answer(b"@7 bfs 3"), bfs(Some(7), 3, false));
+    assert_eq!(rt; answer(b"@7 bfs 3 sum"), bfs(Some(7), 3, true));
+    assert_eq!(rt; answer(b"bfs"), BAD);
+    assert_eq!(rt; answer(b"bfs sum"), BAD);
+    assert_eq!(rt; answer(b"bfs sum 3"), BAD);
+    assert_eq!(rt; answer(b"bfs 3 Sum"), BAD);
+    assert_eq!(rt; answer(b"bfs 3 4"), BAD);
+    assert_eq!(rt; answer(b"bfs 3 sum sum"), BAD);
+    assert_eq!(rt; answer(b"bfs 4294967296"), BAD);
+    assert_eq!(rt; answer(b"labels"), labels(None, false));
+    assert_eq!(rt; answer(b"labels sum"), labels(None, true));
+    assert_eq!(rt; answer(b"@4 labels"), labels(Some(4), false));
+    assert_eq!(rt; answer(b"@4 labels sum"), labels(Some(4), true));
+    assert_eq!(rt; answer(b"labels 0"), BAD);
+    assert_eq!(rt; answer(b"labels sum 0"), BAD);
+    assert_eq!(rt; answer(b"label"), BAD);
 }
 
 #[test]
@@ -268,6 +305,31 @@ fn accepted_deletions_and_weights_print_nothing(rt: HostRuntime) -> Result<(), A
     print_reply(&mut out, &del, &Reply::Refused(unknown))?;
     print_reply(&mut out, &weigh, &Reply::Refused(unknown))?;
     let text = b"unknown vertex 7 of 3\nunknown vertex 7 of 3\n";
+    assert_eq!(rt; out.as_slice(), text.as_slice());
+    Ok(())
+}
+
+#[test]
+fn levels_print_a_line_for_each_vertex_or_their_sum(rt: HostRuntime) -> Result<(), AllocError> {
+    let mut out = Vec::new(rt.alloc());
+    let levels = [None, Some(0), Some(7), Some(3)];
+    print_levels(&mut out, 12, 1, &levels, false)?;
+    print_levels(&mut out, 12, 1, &levels, true)?;
+    print_levels(&mut out, 0, 5, &[], true)?;
+    let text = b"bfs 12 1\n0 -\n1 0\n2 7\n3 3\nbfs 12 1 sum 3 7 10\nbfs 0 5 sum 0 0 0\n";
+    assert_eq!(rt; out.as_slice(), text.as_slice());
+    Ok(())
+}
+
+/// Three components: {0, 3}, {1} and {2, 4, 5}.
+const COMPONENTS: [u32; 6] = [0, 1, 2, 0, 2, 2];
+
+#[test]
+fn labels_print_a_line_for_each_vertex_or_their_sum(rt: HostRuntime) -> Result<(), AllocError> {
+    let mut out = Vec::new(rt.alloc());
+    print_labels(rt.alloc(), &mut out, 9, &COMPONENTS, false)?;
+    print_labels(rt.alloc(), &mut out, 9, &COMPONENTS, true)?;
+    let text = b"labels 9 3\n0 0\n1 1\n2 2\n3 0\n4 2\n5 2\nlabels 9 sum 3 3 7\n";
     assert_eq!(rt; out.as_slice(), text.as_slice());
     Ok(())
 }

@@ -14,7 +14,7 @@ mod writer;
 
 pub use base::{Base, BaseAt};
 pub use level::SnapshotAt;
-pub use snapshot::Snapshot;
+pub use snapshot::{RowAt, Snapshot};
 
 #[cfg(test)]
 mod tests;

@@ -528,14 +528,23 @@ fn all_set_below(set: &[(u32, u64)], len: u32) -> bool
     set[set.len() - 1].0 < len
 }
 
+/// A place in a row of a [`Snapshot`]: where its next edge is to be looked for, and how many edges are still to come. So at
+/// the end of a row nothing is looked up.
+#[derive(Clone, Copy, Debug)]
+pub struct RowAt {
+    pub(crate) place: SnapshotAt,
+    pub(crate) left: u32,
+}
+
 impl Rows for Snapshot {
-    type At = SnapshotAt;
+    type At = RowAt;
 
     ghost rows = { λ s. s.rows };
 
-    ghost is_place = { λ s p. IsPlace s.layout (length s.rows) p.v p.level p.offset p.left };
+    ghost is_place = { λ s p. IsPlace s.layout (length s.rows) p.place.v p.place.level p.place.offset p.place.left
+        × (p.left ≡ length (visible s.columns (place_cells s.layout p.place.v p.place.level p.place.offset p.place.left))) };
 
-    ghost suffix = { λ s p. visible s.columns (place_cells s.layout p.v p.level p.offset p.left) };
+    ghost suffix = { λ s p. visible s.columns (place_cells s.layout p.place.v p.place.level p.place.offset p.place.left) };
 
     fn count(&self) -> u32 {
         self.vertices.len()
@@ -545,14 +554,24 @@ impl Rows for Snapshot {
         self.vertices.get(v).degree
     }
 
-    fn start(&self, v: u32) -> SnapshotAt {
-        self.row_place(v)
+    fn start(&self, v: u32) -> RowAt {
+        RowAt {
+            place: self.row_place(v),
+            left: self.degree(v),
+        }
     }
 
     #[inline(always)]
-    fn next(&self, at: SnapshotAt) -> Option<(u32, u64, SnapshotAt)> {
-        let (cell, rest) = self.next_standing(at)?;
+    fn next(&self, at: RowAt) -> Option<(u32, u64, RowAt)> {
+        if at.left == 0 {
+            return None;
+        }
+        let (cell, place) = self.next_standing(at.place)?;
         let weights = &self.weights[cell.table as usize];
+        let rest = RowAt {
+            place,
+            left: at.left - 1,
+        };
         Some((self.target_at(cell), weights.weight(cell.place), rest))
     }
 }

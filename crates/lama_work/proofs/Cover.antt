@@ -1,6 +1,7 @@
 -- The pieces lie one after another and make up the whole.
 use Rattle.std.proofs.Common.{◌≡◌, ◌∙◌, ℕ, suc, ◌+◌, ◌-◌, ◌*◌, ◌/◌, ◌<◌, ◌≤◌, List, [], ◌∷◌, ◌++◌, length, get_or, take, drop, sym, ap, subst, arith}
 use Rattle.std.specs.List.{flat_map}
+use Rattle.std.specs.Prelude.{Result, Ok, Err, IfOk}
 use Rattle.std.proofs.Math.Nat.{div-le_self, div-mul-le_self, mul-div_cancel, mul-le-mul_left}
 use Rattle.std.proofs.lemmas.Nat.{le-div}
 use Rattle.std.proofs.lemmas.List.{drop_all, drop-drop, take-append-drop}
@@ -53,3 +54,8 @@ module _ {T B : Type 0} (items : T → List B) (f : List ℕ → List B) (joins 
   pub cover : (rs : List T) → length rs ≡ workers → ((i : ℕ) (d : T) → i < workers → items (get_or rs i d) ≡ f (piece_of i)) → flat_map items rs ≡ f us
   cover rs len each = from 0 rs (omega (arith, len)) (λ j d lt. let here : j ≡ 0 + j = omega arith in each j d (omega (arith, lt, len)) ∙ ap (λ k. f (piece_of k)) here)
       ∙ ap (λ k. f (drop k us)) (first-start n workers some)
+
+-- an answer that meets both
+pub both-ok : {T E : Type 0} (r : Result T E) (P Q : T → Type 0) → IfOk r P → IfOk r Q → IfOk r (λ v. P v × Q v)
+both-ok (Ok x) P Q p q = (p, q)
+both-ok (Err e) P Q p q = tt

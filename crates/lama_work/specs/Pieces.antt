@@ -1,5 +1,5 @@
 -- The pieces of the numbers below a bound, and what calls on them give.
-use Rattle.std.specs.Prelude.{◌≡◌, ℕ, ◌+◌, ◌*◌, ◌/◌, ◌<◌, List, Result, Ok, slice_index_or}
+use Rattle.std.specs.Prelude.{ℕ, ◌+◌, ◌*◌, ◌/◌, ◌<◌, List, Result, Ok, slice_index_or}
 use denote.Param.Members.{Shared}
 use Rattle.std.specs.Fn.{FnReturns}
 
@@ -14,7 +14,7 @@ module _ {F T E : Type 0} (g : Shared F (ℕ × (ℕ × (ℕ × Unit {0}))) (Res
 
   -- each element of ts is what a call of f with the piece of its place may give with Ok
   abbrev pub GivesPieces : ℕ → ℕ → List T → Type 0
-  GivesPieces n workers ts = (i : ℕ) (d : T) → i < workers → (slice_index_or ts i d ≡ slice_index_or ts i d) × GivesPiece n workers i (Ok (slice_index_or ts i d))
+  GivesPieces n workers ts = (i : ℕ) (d : T) → i < workers → GivesPiece n workers i (Ok (slice_index_or ts i d))
 
   -- each element of rs is what a call of f may give with the piece of its place
   abbrev pub AreOfPieces : ℕ → ℕ → List (Result T E) → Type 0

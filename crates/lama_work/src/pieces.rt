@@ -1,12 +1,9 @@
 ghost use Rattle.std.specs.Prelude.{◌≡◌, ℕ, ◌+◌, ◌*◌, ◌/◌, ◌<◌, ◌≤◌, IfOk, Ok, length, map};
 ghost use Rattle.lama_work.specs.Pieces.{piece_start, AreOfPieces, GivesPiece, GivesPieces};
 
-use lama_base::Gate;
+use lama_base::{Gate, PIECE_BEGINS};
 use std::alloc::{AllocError, Global};
 use std::thread::{Threads, map_indices};
-
-// The point of the gate that a piece reaches before its work.
-const PIECE_BEGINS: u32 = 4;
 
 /// Piece `i` of the numbers below `n`, cut for so many workers: where it begins, and where it ends, which is no longer in
 /// it. The pieces lie one after another, and none is more than one longer than another. It takes no memory.

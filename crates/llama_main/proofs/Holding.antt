@@ -2,7 +2,6 @@
 use Rattle.std.proofs.Common.{◌≡◌, ◌≢◌, ◌∙◌, ℕ, ◌-◌, ◌≤◌, List, [], ◌∷◌, ◌++◌, length, get_or, refl, sym, ap, subst, arith, Option, Some, None}
 use Rattle.std.specs.Prelude.{MatchOption}
 use Rattle.std.proofs.lemmas.List.Sums.{fold-append}
-use Rattle.lama_model.specs.Row.{AreRowsOf}
 use Rattle.lama_model.specs.Opening.{empty_opening}
 use Rattle.lama_model.specs.Journal.{Standing, standing, after, begun, newest_of, graph_of, reply_at}
 use Rattle.lama_model.specs.Text.{entry}
@@ -17,7 +16,8 @@ use Rattle.lama_book.specs.Book.{Book, no_snap, last_snap, snap_at, newest_numbe
 use Rattle.lama_book.specs.Relation.{IsSnapshotOf, IsBookOf}
 use Rattle.lama_book.proofs.Answering.{newest-is}
 use Rattle.lama_book.proofs.Keeping.{after-look, after-look_at}
-use Rattle.llama_main.specs.Store.{Held, held_by, called, IsFound}
+use Rattle.llama_main.specs.Store.{Held, held_by, called, IsFound, IsWithinLimits, AreOfGraph}
+use Rattle.llama_main.proofs.Limits.{graph-within}
 
 -- one entry more
 pub held_by-push : (journal : List Entry) (call : Call) → held_by (journal ++ entry 0 call ∷ []) ≡ called (held_by journal) call
@@ -30,10 +30,10 @@ pub holds : (j j' : List Entry) (h : Held) (call : Call) → j' ≡ j ++ record 
 holds j j' h call is held = ap held_by is ∙ (held_by-push j call ∙ ap (λ x. called x call) held)
 
 -- the snapshot of a number is found under it
-found : (s t : Standing) (k : ℕ) (r : Reply) (x : Snap) → t ≡ s → r ≡ Snapshot k → IsSnapshotOf empty_opening s k x → IsFound t r x
-found s t k r x same is of = record {
+found : (s t : Standing) (k : ℕ) (r : Reply) (x : Snap) → t ≡ s → r ≡ Snapshot k → IsWithinLimits (graph_of empty_opening s k) → IsSnapshotOf empty_opening s k x → IsFound t r x
+found s t k r x same is within of = record {
   reply = is ∙ ap (λ n. Snapshot n) (sym of.number);
-  rows = subst (λ n. AreRowsOf x.rows (graph_of empty_opening t n)) (sym of.number) (subst (λ u. AreRowsOf x.rows (graph_of empty_opening u k)) (sym same) of.rows);
+  rows = subst (λ n. AreOfGraph x.rows (graph_of empty_opening t n)) (sym of.number) (subst (λ u. AreOfGraph x.rows (graph_of empty_opening u k)) (sym same) (record { rows = of.rows; graph = within }));
 }
 
 -- the newest snapshot is that of the newest number
@@ -59,7 +59,7 @@ look-found b j x n of longer is number =
     let k = newest_of empty_opening s in
     let new = newest-of b of in
     found s (standing empty_opening j) k (Snapshot n) x (ap (standing empty_opening) longer ∙ (standing-push empty_opening b.journal (record { caller = 0; call = Look }) ∙ after-look empty_opening s))
-    (ap (λ m. Snapshot m) (number ∙ (ap (λ (y : Snap). y.number) is ∙ new.number))) (subst (IsSnapshotOf empty_opening s k) (sym is) new)
+    (ap (λ m. Snapshot m) (number ∙ (ap (λ (y : Snap). y.number) is ∙ new.number))) (graph-within of.is b.journal k (omega arith)) (subst (IsSnapshotOf empty_opening s k) (sym is) new)
 
 -- a kept snapshot is that of its number
 at-found : (b : Book) (j : List Entry) (x : Snap) (k : ℕ) (r : Reply) → IsBookOf empty_opening b → j ≡ b.journal ++ record { caller = 0; call = LookAt k } ∷ [] → r ≡ Snapshot k → b.oldest ≤ k → k ≤ newest_number b → x ≡ snap_at b k → IsFound (standing empty_opening j) r x
@@ -69,6 +69,7 @@ at-found b j x k r of longer reply low high is =
     let n = newest-is empty_opening b of in
     let at : get_or b.kept (k - s.oldest) no_snap ≡ x = ap (λ i. get_or b.kept (k - i) no_snap) (sym old) ∙ sym is in
     found s (standing empty_opening j) k r x (ap (standing empty_opening) longer ∙ (standing-push empty_opening b.journal (record { caller = 0; call = LookAt k }) ∙ after-look_at empty_opening s k)) reply
+    (graph-within of.is b.journal k (omega (arith, high, n)))
     (subst (IsSnapshotOf empty_opening s k) at (of.each k (omega (arith, low, old)) (omega (arith, high, n))))
 
 pub look_at-found : {A : Type 0} (value : A → Snap) (b : Book) (j : List Entry) (k : ℕ) (r : Reply) (o : Option A) → IsBookOf empty_opening b → j ≡ b.journal ++ record { caller = 0; call = LookAt k } ∷ [] →

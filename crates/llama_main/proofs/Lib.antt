@@ -8,4 +8,5 @@ pub mod Sessions
 pub mod Runs
 pub mod Causes
 pub mod Top
+pub mod Limits
 pub mod Holding

@@ -1,24 +1,31 @@
 -- What a reading command prints.
-use Rattle.std.proofs.Common.{◌≡◌, ℕ, ◌+◌, ◌<◌, ◌≤◌, Bool, true, false, cond, List, [], refl, sym, ap, ◌∙◌, arith, Option}
+use Rattle.std.proofs.Common.{◌≡◌, ℕ, ◌+◌, ◌<◌, ◌≤◌, Bool, true, false, cond, List, [], length, refl, sym, ap, ◌∙◌, arith, Option}
 use Rattle.std.specs.Prelude.{nat_lt}
 use Rattle.std.proofs.lemmas.Bool.Decides.{nat_tests}
 use Rattle.std.proofs.lemmas.List.{ext_get_or}
 use Rattle.std.proofs.lemmas.List.FromFn.{get_or-map-range_with_len, length-map-range_with_len}
-use Rattle.lama_model.specs.Graph.{Graph}
-use Rattle.lama_model.specs.Row.{row, row_at, rows_of, AreRowsOf}
+use Rattle.lama_model.specs.Graph.{Graph, IsGraph}
+use Rattle.lama_model.specs.Row.{row, row_at, rows_of, AreRowsOf, AreSame, graph_of_rows}
+use Rattle.lama_model.specs.Levels.{level, levels}
+use Rattle.lama_model.specs.Labels.{label, labels, AreFirst}
 use Rattle.lama_model.specs.Opening.{empty_opening}
 use Rattle.lama_model.specs.Journal.{reply_at}
-use Rattle.lama_model.specs.Lines.{reply_line, refusal_line, row_line, edges_lines}
+use Rattle.lama_model.specs.Lines.{reply_line, refusal_line, row_line, edges_lines, levels_text, labels_text}
 use Rattle.lama_model.specs.Text.{read_lines, look_of}
 use Rattle.lama_model.specs.declared.calls.Write.TheVariants.{Vertices, Add, Remove, Weigh}
 use Rattle.lama_model.specs.declared.commands.Command.{Command}
 use Rattle.lama_model.specs.declared.commands.Command.TheVariants.{Write as Writes, Checkpoint as Checkpoints, Read as Reads}
 use Rattle.lama_model.specs.declared.commands.Read.{Read}
-use Rattle.lama_model.specs.declared.commands.Read.TheVariants.{Row, Edges}
+use Rattle.lama_model.specs.declared.commands.Read.TheVariants.{Row, Edges, Bfs, Labels}
 use Rattle.lama_model.specs.declared.answers.Reply.{Reply}
 use Rattle.lama_model.specs.declared.answers.Reply.TheVariants.{Accepted, Count, Snapshot, Kept, Refused}
 use Rattle.lama_model.specs.declared.answers.Refusal.{Refusal}
 use Rattle.lama_model.specs.declared.answers.Refusal.TheVariants.{UnknownVertex}
+use Rattle.lama_model.proofs.RowsOfGraph.{row-of-rows}
+use Rattle.lama_model.proofs.LevelLaw.{levels_same}
+use Rattle.lama_model.proofs.LabelLaw.{graph-ends, labels_are, labels_same, labels_first}
+use Rattle.lama_model.proofs.Leading.{leads-same}
+use Rattle.lama_book.proofs.Checkpointing.{row-everywhere}
 use Rattle.llama_main.specs.Store.{Held}
 use Rattle.llama_main.specs.Expected.{printed, printed_reading, held_after}
 
@@ -53,11 +60,11 @@ row-read g rows k v of below =
     ap (row_line k v) (of.each v below) ∙ sym (ap (λ (b : Bool). cond b (row_line k v (row g v)) (refusal_line (UnknownVertex v g.count))) test)
 
 -- a vertex that isn't there
-pub row-refused : (g : Graph) (c : Command) (count k v : ℕ) → count ≡ g.count → count ≤ v → reply_line c (Refused (UnknownVertex v count)) ≡ read_lines g k (Row v)
+pub row-refused : (g : Graph) (count k v : ℕ) → count ≡ g.count → count ≤ v → refusal_line (UnknownVertex v count) ≡ read_lines g k (Row v)
 unfolding read_lines
-row-refused g c count k v same_count past =
+row-refused g count k v same_count past =
     let test : nat_lt v g.count ≡ false = grind (arith, nat_tests) in
-    reply_line-refused c (UnknownVertex v count) ∙ (ap (λ (n : ℕ). refusal_line (UnknownVertex v n)) same_count ∙ sym (ap (λ (b : Bool). cond b (row_line k v (row g v)) (refusal_line (UnknownVertex v g.count))) test))
+    ap (λ (n : ℕ). refusal_line (UnknownVertex v n)) same_count ∙ sym (ap (λ (b : Bool). cond b (row_line k v (row g v)) (refusal_line (UnknownVertex v g.count))) test)
 
 all-rows : (g : Graph) (rows : List (List (ℕ × ℕ))) → AreRowsOf rows g → rows ≡ rows_of g
 unfolding rows_of
@@ -70,3 +77,44 @@ all-rows g rows of =
 pub edges-read : (g : Graph) (rows : List (List (ℕ × ℕ))) (k : ℕ) → AreRowsOf rows g → edges_lines k rows ≡ read_lines g k Edges
 unfolding read_lines
 edges-read g rows k of = ap (edges_lines k) (all-rows g rows of)
+
+-- the rows have the same graph
+same-graph : (g : Graph) (rows : List (List (ℕ × ℕ))) → AreRowsOf rows g → IsGraph g → AreSame (graph_of_rows rows) g
+same-graph g rows of is = record { count = of.count; rows = λ v. row-of-rows rows v ∙ row-everywhere rows g v of is }
+
+-- all levels
+pub levels-read : (g : Graph) (rows : List (List (ℕ × ℕ))) (k s : ℕ) (sum : Bool) → AreRowsOf rows g → IsGraph g → s < g.count → levels_text k s (levels (graph_of_rows rows) s) sum ≡ read_lines g k (Bfs s sum)
+unfolding read_lines
+levels-read g rows k s sum of is below =
+    let test : nat_lt s g.count ≡ true = grind (arith, nat_tests) in
+    let same = same-graph g rows of is in
+    ap (λ ls. levels_text k s ls sum) (levels_same (graph_of_rows rows) g same.count (leads-same (graph_of_rows rows) g same) s)
+    ∙ sym (ap (λ (b : Bool). cond b (levels_text k s (levels g s) sum) (refusal_line (UnknownVertex s g.count))) test)
+
+-- a source that isn't there
+pub levels-refused : (g : Graph) (count k s : ℕ) (sum : Bool) → count ≡ g.count → count ≤ s → refusal_line (UnknownVertex s count) ≡ read_lines g k (Bfs s sum)
+unfolding read_lines
+levels-refused g count k s sum same_count past =
+    let test : nat_lt s g.count ≡ false = grind (arith, nat_tests) in
+    ap (λ (n : ℕ). refusal_line (UnknownVertex s n)) same_count ∙ sym (ap (λ (b : Bool). cond b (levels_text k s (levels g s) sum) (refusal_line (UnknownVertex s g.count))) test)
+
+-- there is one for each vertex
+pub levels-count : (g : Graph) (s : ℕ) → length (levels g s) ≡ g.count
+unfolding levels
+levels-count g s = length-map-range_with_len (level g s) 0 g.count
+
+-- all labels
+pub labels-same : (g : Graph) (rows : List (List (ℕ × ℕ))) → AreRowsOf rows g → IsGraph g → labels (graph_of_rows rows) ≡ labels g
+labels-same g rows of is = let same = same-graph g rows of is in labels_same (graph_of_rows rows) g is same.count (leads-same (graph_of_rows rows) g same)
+
+pub labels-read : (g : Graph) (k : ℕ) (sum : Bool) → labels_text k (labels g) sum ≡ read_lines g k (Labels sum)
+unfolding read_lines
+labels-read g k sum = refl
+
+pub labels-count : (g : Graph) → length (labels g) ≡ g.count
+unfolding labels
+labels-count g = length-map-range_with_len (label g) 0 g.count
+
+-- each names its component
+pub labels-first : (g : Graph) → IsGraph g → AreFirst (labels g)
+labels-first g is = labels_first g (graph-ends g is) (labels g) (labels_are g (graph-ends g is))

@@ -1,5 +1,5 @@
 -- What a run says, whether its words were in the grammar or not.
-use Rattle.std.proofs.Common.{◌≡◌, ℕ, List, [], ◌∷◌, refl, sym, ap, subst, ◌∙◌, Option, Some, None, ◌⊎◌, inl, inr}
+use Rattle.std.proofs.Common.{◌≡◌, ℕ, List, [], refl, sym, ap, subst, ◌∙◌, Option, Some, None, ◌⊎◌, inl, inr}
 use Rattle.std.specs.Prelude.{IfSome, IsSome, MatchOption}
 use Rattle.std.proofs.lemmas.Bool.{false≢true}
 use Rattle.lama_model.specs.Opening.{empty_opening}
@@ -15,13 +15,13 @@ use Rattle.lama_book.specs.Book.{Book}
 use Rattle.lama_book.specs.Relation.{IsBookOf}
 use Rattle.llama_main.specs.Outcome.{journal_of}
 use Rattle.llama_main.specs.Run.{Ran, RanWith, Fits}
-use Rattle.llama_main.specs.Words.{text_under, AreRefused}
+use Rattle.llama_main.specs.Words.{text_by, AreRefused}
 use Rattle.llama_main.proofs.Bytes.{Gave-none}
 
--- there are no words, or there are some
-pub words_cases : {A : Type 0} (words : List A) → (words ≡ []) ⊎ (words ≡ [] → ⊥)
-words_cases [] = inl refl
-words_cases (word ∷ words) = inr (λ h. cc)
+-- the words are in the grammar, or they are not
+pub words_cases : (n : Option ℕ) → IsSome n ⊎ (IsSome n → ⊥)
+words_cases None = inr (λ h. false≢true h)
+words_cases (Some n) = inl refl
 
 pub outside_status : (w w' : Option (List ℕ)) (status : Status) → AreRefused w w' status → IsOutside status
 outside_status w w' status (inl h) = subst IsOutside (sym h.0) tt
@@ -69,46 +69,50 @@ fits_cut l l' w w' journal statuses.NoMemory given taken gave took fits cut = (g
 fits_cut l l' w w' journal statuses.TooManyLines given taken gave took fits cut = absurd cut
 
 -- what is known of a run: the script was run, or the words were refused and nothing was read
-abbrev RunsInside : {A : Type 0} → List A → Option (List ℕ) → Option (List ℕ) → Option (List ℕ) → Option (List ℕ) → Status → Type 0
-RunsInside words l l' w w' status = words ≡ [] → Ran l l' w w' status
+abbrev RunsInside : Option ℕ → Option (List ℕ) → Option (List ℕ) → Option (List ℕ) → Option (List ℕ) → Status → Type 0
+RunsInside n l l' w w' status = IsSome n → Ran l l' w w' status
 
-abbrev RefusesOutside : {A : Type 0} → List A → Option (List ℕ) → Option (List ℕ) → Option (List ℕ) → Option (List ℕ) → Status → Type 0
-RefusesOutside words l l' w w' status = (words ≡ [] → ⊥) → AreRefused w w' status × (l' ≡ l)
+abbrev RefusesOutside : Option ℕ → Option (List ℕ) → Option (List ℕ) → Option (List ℕ) → Option (List ℕ) → Status → Type 0
+RefusesOutside n l l' w w' status = (IsSome n → ⊥) → AreRefused w w' status × (l' ≡ l)
 
-pub text_clause : {A : Type 0} (words : List A) (l l' w w' : Option (List ℕ)) (status : Status) → RunsInside words l l' w w' status → RefusesOutside words l l' w w' status → IfSome (end_of status) (λ e. Exchanges l l' w w' (λ given taken. IsText given taken e))
+pub text_clause : (words : Option ℕ) (l l' w w' : Option (List ℕ)) (status : Status) → RunsInside words l l' w w' status → RefusesOutside words l l' w w' status → IfSome (end_of status) (λ e. Exchanges l l' w w' (λ given taken. IsText given taken e))
 text_clause words l l' w w' status inside outside = by (words_cases words)
   where
-    by : (words ≡ []) ⊎ (words ≡ [] → ⊥) → IfSome (end_of status) (λ e. Exchanges l l' w w' (λ given taken. IsText given taken e))
+    by : IsSome words ⊎ (IsSome words → ⊥) → IfSome (end_of status) (λ e. Exchanges l l' w w' (λ given taken. IsText given taken e))
     by (inl h) = let ran = (inside h).run in fits_text l l' w w' (inside h).journal status ran.given ran.taken ran.gave ran.took ran.fits
     by (inr h) = outside_end status (λ e. Exchanges l l' w w' (λ given taken. IsText given taken e)) (outside_status w w' status (outside h).0)
 
-pub settled_clause : {A : Type 0} (words : List A) (l l' w w' : Option (List ℕ)) (status : Status) → RunsInside words l l' w w' status → RefusesOutside words l l' w w' status → IfSome (end_of status) (λ e. Exchanges l l' w w' (λ given taken. IsSettled l l' given))
+pub settled_clause : (words : Option ℕ) (l l' w w' : Option (List ℕ)) (status : Status) → RunsInside words l l' w w' status → RefusesOutside words l l' w w' status → IfSome (end_of status) (λ e. Exchanges l l' w w' (λ given taken. IsSettled l l' given))
 settled_clause words l l' w w' status inside outside = by (words_cases words)
   where
-    by : (words ≡ []) ⊎ (words ≡ [] → ⊥) → IfSome (end_of status) (λ e. Exchanges l l' w w' (λ given taken. IsSettled l l' given))
+    by : IsSome words ⊎ (IsSome words → ⊥) → IfSome (end_of status) (λ e. Exchanges l l' w w' (λ given taken. IsSettled l l' given))
     by (inl h) = let ran = (inside h).run in fits_settled l l' w w' (inside h).journal status ran.given ran.taken ran.gave ran.took ran.fits
     by (inr h) = outside_end status (λ e. Exchanges l l' w w' (λ given taken. IsSettled l l' given)) (outside_status w w' status (outside h).0)
 
 -- at Done the source has ended
-pub ended_clause : {A : Type 0} (words : List A) (l l' w w' : Option (List ℕ)) (status : Status) → RunsInside words l l' w w' status → RefusesOutside words l l' w w' status → status ≡ statuses.Done → HasEnded l l'
+pub ended_clause : (words : Option ℕ) (l l' w w' : Option (List ℕ)) (status : Status) → RunsInside words l l' w w' status → RefusesOutside words l l' w w' status → status ≡ statuses.Done → HasEnded l l'
 ended_clause words l l' w w' status inside outside done = by (words_cases words)
   where
-    by : (words ≡ []) ⊎ (words ≡ [] → ⊥) → HasEnded l l'
+    by : IsSome words ⊎ (IsSome words → ⊥) → HasEnded l l'
     by (inl h) = let ran = (inside h).run in (subst (Fits l l' ran.given ran.taken (inside h).journal) done ran.fits).0
     by (inr h) = absurd (subst IsOutside done (outside_status w w' status (outside h).0))
 
-cut_outside : {A : Type 0} (words : List A) (l l' w w' : Option (List ℕ)) (status : Status) → (words ≡ [] → ⊥) → AreRefused w w' status → l' ≡ l → IsCut status → Exchanges l l' w w' (λ given taken. IsFront taken (text_under words given))
-cut_outside [] l l' w w' status some refused same cut = absurd (some refl)
-cut_outside (word ∷ words) l l' w w' status some (inl h) same cut = absurd (subst IsCut h.0 cut)
-cut_outside (word ∷ words) l l' w w' status some (inr h) same cut = ([], h.0, subst (λ (x : Option (List ℕ)). Gave l x []) (sym same) (Gave-none l), h.1, h.2)
+cut_outside : (words : Option ℕ) (l l' w w' : Option (List ℕ)) (status : Status) → (IsSome words → ⊥) → AreRefused w w' status → l' ≡ l → IsCut status → Exchanges l l' w w' (λ given taken. IsFront taken (text_by words given))
+cut_outside (Some n) l l' w w' status some refused same cut = absurd (some refl)
+cut_outside None l l' w w' status some (inl h) same cut = absurd (subst IsCut h.0 cut)
+cut_outside None l l' w w' status some (inr h) same cut = ([], h.0, subst (λ (x : Option (List ℕ)). Gave l x []) (sym same) (Gave-none l), h.1, h.2)
 
-pub cut_clause : {A : Type 0} (words : List A) (l l' w w' : Option (List ℕ)) (status : Status) → RunsInside words l l' w w' status → RefusesOutside words l l' w w' status → IsCut status → Exchanges l l' w w' (λ given taken. IsFront taken (text_under words given))
+cut_inside : (words : Option ℕ) (l l' w w' : Option (List ℕ)) → IsSome words → Exchanges l l' w w' (λ given taken. IsFront taken (text empty_opening given)) → Exchanges l l' w w' (λ given taken. IsFront taken (text_by words given))
+cut_inside (Some n) l l' w w' some h = h
+cut_inside None l l' w w' some h = absurd (false≢true some)
+
+pub cut_clause : (words : Option ℕ) (l l' w w' : Option (List ℕ)) (status : Status) → RunsInside words l l' w w' status → RefusesOutside words l l' w w' status → IsCut status → Exchanges l l' w w' (λ given taken. IsFront taken (text_by words given))
 cut_clause words l l' w w' status inside outside cut = by (words_cases words)
   where
-    by : (words ≡ []) ⊎ (words ≡ [] → ⊥) → Exchanges l l' w w' (λ given taken. IsFront taken (text_under words given))
+    by : IsSome words ⊎ (IsSome words → ⊥) → Exchanges l l' w w' (λ given taken. IsFront taken (text_by words given))
     by (inl h) =
         let ran = (inside h).run in
-        subst (λ ws. Exchanges l l' w w' (λ given taken. IsFront taken (text_under ws given))) (sym h) (fits_cut l l' w w' (inside h).journal status ran.given ran.taken ran.gave ran.took ran.fits cut)
+        cut_inside words l l' w w' h (fits_cut l l' w w' (inside h).journal status ran.given ran.taken ran.gave ran.took ran.fits cut)
     by (inr h) = let out = outside h in cut_outside words l l' w w' status h out.0 out.1 cut
 
 refused_usage : (w w' : Option (List ℕ)) (status : Status) → AreRefused w w' status → status ≡ statuses.Usage → Appends w w' usage_line
@@ -119,10 +123,10 @@ refused_usage w w' status (inr h) is = by h.3
     by (inl other) = cc
     by (inr other) = cc
 
-pub usage_clause : {A : Type 0} (words : List A) (l l' w w' : Option (List ℕ)) (status : Status) → RunsInside words l l' w w' status → RefusesOutside words l l' w w' status → status ≡ statuses.Usage → (words ≡ [] → ⊥) × Appends w w' usage_line
+pub usage_clause : (words : Option ℕ) (l l' w w' : Option (List ℕ)) (status : Status) → RunsInside words l l' w w' status → RefusesOutside words l l' w w' status → status ≡ statuses.Usage → (IsSome words → ⊥) × Appends w w' usage_line
 usage_clause words l l' w w' status inside outside is = by (words_cases words)
   where
-    by : (words ≡ []) ⊎ (words ≡ [] → ⊥) → (words ≡ [] → ⊥) × Appends w w' usage_line
+    by : IsSome words ⊎ (IsSome words → ⊥) → (IsSome words → ⊥) × Appends w w' usage_line
     by (inl h) = let ran = (inside h).run in absurd (subst (Fits l l' ran.given ran.taken (inside h).journal) is ran.fits)
     by (inr h) = (h, refused_usage w w' status (outside h).0 is)
 

@@ -1,5 +1,6 @@
 -- What the store of a script holds.
-use Rattle.std.specs.Prelude.{◌≡◌, List, [], ◌∷◌, ◌++◌}
+use Rattle.std.specs.Prelude.{◌≡◌, ℕ, ◌≤◌, List, [], ◌∷◌, ◌++◌, length}
+use Rattle.lama_model.specs.Graph.{Graph, IsGraph}
 use Rattle.lama_model.specs.Row.{AreRowsOf}
 use Rattle.lama_model.specs.Opening.{empty_opening}
 use Rattle.lama_model.specs.Journal.{Standing, standing, after, graph_of}
@@ -22,7 +23,18 @@ held_by journal = record { journal = journal; standing = standing empty_opening 
 abbrev pub called : Held → Call → Held
 called h call = record { journal = h.journal ++ record { caller = 0; call = call } ∷ []; standing = after empty_opening h.standing call }
 
+-- the graph is one within the limits
+pub record IsWithinLimits (g : Graph) : Type 0 where
+  pub is : IsGraph g
+  pub vertices : g.count ≤ 4194304
+  pub edges : length g.edges ≤ 33554432
+
+-- the rows are those of the graph, which is one within the limits
+pub record AreOfGraph (rs : List (List (ℕ × ℕ))) (g : Graph) : Type 0 where
+  pub rows : AreRowsOf rs g
+  pub graph : IsWithinLimits g
+
 -- the reply hands out the snapshot, which is that of its number
 pub record IsFound (s : Standing) (r : Reply) (x : Snap) : Type 0 where
   pub reply : r ≡ Snapshot x.number
-  pub rows : AreRowsOf x.rows (graph_of empty_opening s x.number)
+  pub rows : AreOfGraph x.rows (graph_of empty_opening s x.number)

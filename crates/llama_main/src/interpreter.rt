@@ -2,24 +2,34 @@
 
 ghost use Rattle.std.specs.Prelude.{◌≡◌, ◌+◌, ◌<◌, ◌≤◌, [], ◌∷◌, ◌++◌, ℕ, List, IfOk, IfErr, OnOk, OnErr, length};
 ghost use Rattle.lama_model.specs.Opening.{empty_opening};
-ghost use Rattle.lama_model.specs.Row.{AreRowsOf};
 ghost use Rattle.lama_model.specs.Journal.{graph_of};
 ghost use Rattle.lama_model.specs.Text.{read_lines};
-ghost use Rattle.lama_model.specs.declared.commands.Read.TheVariants.{Row, Edges};
-ghost use Rattle.llama_main.specs.Store.{held_by};
+ghost use Rattle.lama_model.specs.Lines.{refusal_line};
+ghost use Rattle.lama_model.specs.declared.answers.Refusal.TheVariants.{UnknownVertex};
+ghost use Rattle.llama_main.specs.Words.{IsTeam};
+ghost use Rattle.lama_model.specs.declared.commands.Read.TheVariants.{Row, Edges, Bfs, Labels};
+ghost use Rattle.llama_main.specs.Store.{held_by, AreOfGraph};
 ghost use Rattle.llama_main.specs.Expected.{held_after, printed, expected_from};
 ghost use Rattle.llama_main.specs.Stop.{StopsAt, IsOfScript};
 ghost use Rattle.llama_main.specs.Interpreter.{expected_of, IsRunning, command_in};
 
 use crate::stop::Stop;
 use crate::store::Store;
+use crate::team::Team;
+use lama_base::Gate;
+use lama_bfs::levels;
 use lama_book::Looked;
+use lama_label::labels;
 use lama_model::{Refusal, Reply, Rows};
 use lama_pages::Steps;
-use lama_script::{Command, Item, Parser, Read, ScriptFault, print_edges, print_reply, print_row};
+use lama_script::{
+    Command, Item, Parser, Read, ScriptFault, print_edges, print_labels, print_levels, print_reply,
+    print_row,
+};
 use lama_snapshot::Snapshot;
 use std::alloc::{AllocError, Global};
 use std::sync::ledger::Ledger;
+use std::thread::Threads;
 
 /// Takes the lines of one script, one after another.
 #[derive(Drop)]
@@ -67,8 +77,14 @@ impl Interpreter {
     }
 
     /// Does what the line says, which was given without its line feed, and gathers what it prints.
-    pub fn take_line<L: Ledger>(&mut self, line: &[u8], pages: &mut Steps<L>) -> Result<(), Stop>
-        requires { IsRunning self.old }
+    pub fn take_line<R: Threads + Sync, G: Gate + Sync, L: Ledger>(
+        &mut self,
+        team: &Team<R, G>,
+        line: &[u8],
+        pages: &mut Steps<L>,
+    ) -> Result<(), Stop>
+        requires team { IsTeam team.now.workers }
+        requires running { IsRunning self.old }
         ensures ok { OnOk result ((rest : List (List ℕ)) → expected_of self.old (line.now ∷ rest) ≡ expected_of self.new rest) }
         ensures running { OnOk result (IsRunning self.new) }
         ensures next { OnOk result (self.new.parser.taken ≡ self.old.parser.taken + 1) }
@@ -78,7 +94,7 @@ impl Interpreter {
     {
         match self.parser.line(line) {
             Ok(None) => Ok(()),
-            Ok(Some(item)) => match self.run(item, pages) {
+            Ok(Some(item)) => match self.run(team, item, pages) {
                 Ok(()) => Ok(()),
                 Err(_) => Err(Stop::NoMemory),
             },
@@ -89,7 +105,13 @@ impl Interpreter {
     }
 
     /// Does an item and gathers what it prints.
-    fn run<L: Ledger>(&mut self, item: Item, pages: &mut Steps<L>) -> Result<(), AllocError>
+    fn run<R: Threads + Sync, G: Gate + Sync, L: Ledger>(
+        &mut self,
+        team: &Team<R, G>,
+        item: Item,
+        pages: &mut Steps<L>,
+    ) -> Result<(), AllocError>
+        requires team { IsTeam team.now.workers }
         requires room { length self.old.store.journal < 4194304 }
         ensures parser { self.new.parser ≡ self.old.parser }
         ensures held { OnOk result (self.new.store ≡ held_after self.old.store (command_in item)) }
@@ -97,12 +119,18 @@ impl Interpreter {
         ensures err { OnErr result (self.new.out.items ≡ self.old.out.items) }
     {
         match item {
-            Item::One(command) => self.obey(&command, pages),
+            Item::One(command) => self.obey(team, &command, pages),
         }
     }
 
     /// Makes the command's call and gathers what it prints.
-    fn obey<L: Ledger>(&mut self, command: &Command, pages: &mut Steps<L>) -> Result<(), AllocError>
+    fn obey<R: Threads + Sync, G: Gate + Sync, L: Ledger>(
+        &mut self,
+        team: &Team<R, G>,
+        command: &Command,
+        pages: &mut Steps<L>,
+    ) -> Result<(), AllocError>
+        requires team { IsTeam team.now.workers }
         requires room { length self.old.store.journal < 4194304 }
         ensures parser { self.new.parser ≡ self.old.parser }
         ensures held { OnOk result (self.new.store ≡ held_after self.old.store command.now) }
@@ -121,7 +149,7 @@ impl Interpreter {
             Command::Read { at, what } => {
                 let Looked { reply, snapshot } = self.store.look(at)?;
                 match snapshot {
-                    Some(snapshot) => self.read(command, &snapshot, what),
+                    Some(snapshot) => self.read(team, command, &snapshot, what),
                     None => print_reply(&mut self.out, command, &reply),
                 }
             }
@@ -129,8 +157,15 @@ impl Interpreter {
     }
 
     /// Reads the snapshot.
-    fn read(&mut self, command: &Command, snapshot: &Snapshot, what: Read) -> Result<(), AllocError>
-        requires { AreRowsOf snapshot.now.rows (graph_of empty_opening self.old.store.standing snapshot.now.number) }
+    fn read<R: Threads + Sync, G: Gate + Sync>(
+        &mut self,
+        team: &Team<R, G>,
+        command: &Command,
+        snapshot: &Snapshot,
+        what: Read,
+    ) -> Result<(), AllocError>
+        requires team { IsTeam team.now.workers }
+        requires rows { AreOfGraph snapshot.now.rows (graph_of empty_opening self.old.store.standing snapshot.now.number) }
         ensures parser { self.new.parser ≡ self.old.parser }
         ensures store { self.new.store ≡ self.old.store }
         ensures printed { OnOk result (self.new.out.items ≡ self.old.out.items ++ read_lines (graph_of empty_opening self.old.store.standing snapshot.now.number) snapshot.now.number what) }
@@ -139,12 +174,14 @@ impl Interpreter {
         match what {
             Read::Row { v } => self.read_row(command, snapshot, v),
             Read::Edges => self.read_edges(snapshot),
+            Read::Bfs { s, sum } => self.read_levels(team, command, snapshot, s, sum),
+            Read::Labels { sum } => self.read_labels(team, snapshot, sum),
         }
     }
 
     /// Reads the row of a vertex.
     fn read_row(&mut self, command: &Command, snapshot: &Snapshot, v: u32) -> Result<(), AllocError>
-        requires { AreRowsOf snapshot.now.rows (graph_of empty_opening self.old.store.standing snapshot.now.number) }
+        requires { AreOfGraph snapshot.now.rows (graph_of empty_opening self.old.store.standing snapshot.now.number) }
         ensures parser { self.new.parser ≡ self.old.parser }
         ensures store { self.new.store ≡ self.old.store }
         ensures printed { OnOk result (self.new.out.items ≡ self.old.out.items ++ read_lines (graph_of empty_opening self.old.store.standing snapshot.now.number) snapshot.now.number (Row v)) }
@@ -154,19 +191,77 @@ impl Interpreter {
         if v < count {
             print_row(&mut self.out, snapshot.number(), snapshot, v)
         } else {
-            let refusal = Refusal::UnknownVertex { vertex: v, count };
-            print_reply(&mut self.out, command, &Reply::Refused(refusal))
+            self.refuse_vertex(command, v, count)
         }
+    }
+
+    /// Says that there is no such vertex.
+    fn refuse_vertex(
+        &mut self,
+        command: &Command,
+        vertex: u32,
+        count: u32,
+    ) -> Result<(), AllocError>
+        ensures parser { self.new.parser ≡ self.old.parser }
+        ensures store { self.new.store ≡ self.old.store }
+        ensures printed { OnOk result (self.new.out.items ≡ self.old.out.items ++ refusal_line (UnknownVertex vertex count)) }
+        ensures err { OnErr result (self.new.out.items ≡ self.old.out.items) }
+    {
+        let refusal = Refusal::UnknownVertex { vertex, count };
+        print_reply(&mut self.out, command, &Reply::Refused(refusal))
     }
 
     /// Reads all edges.
     fn read_edges(&mut self, snapshot: &Snapshot) -> Result<(), AllocError>
-        requires { AreRowsOf snapshot.now.rows (graph_of empty_opening self.old.store.standing snapshot.now.number) }
+        requires { AreOfGraph snapshot.now.rows (graph_of empty_opening self.old.store.standing snapshot.now.number) }
         ensures parser { self.new.parser ≡ self.old.parser }
         ensures store { self.new.store ≡ self.old.store }
         ensures printed { OnOk result (self.new.out.items ≡ self.old.out.items ++ read_lines (graph_of empty_opening self.old.store.standing snapshot.now.number) snapshot.now.number Edges) }
         ensures err { OnErr result (self.new.out.items ≡ self.old.out.items) }
     {
         print_edges(&mut self.out, snapshot.number(), snapshot)
+    }
+
+    /// Reads the levels from a vertex.
+    fn read_levels<R: Threads + Sync, G: Gate + Sync>(
+        &mut self,
+        team: &Team<R, G>,
+        command: &Command,
+        snapshot: &Snapshot,
+        s: u32,
+        sum: bool,
+    ) -> Result<(), AllocError>
+        requires team { IsTeam team.now.workers }
+        requires rows { AreOfGraph snapshot.now.rows (graph_of empty_opening self.old.store.standing snapshot.now.number) }
+        ensures parser { self.new.parser ≡ self.old.parser }
+        ensures store { self.new.store ≡ self.old.store }
+        ensures printed { OnOk result (self.new.out.items ≡ self.old.out.items ++ read_lines (graph_of empty_opening self.old.store.standing snapshot.now.number) snapshot.now.number (Bfs s sum)) }
+        ensures err { OnErr result (self.new.out.items ≡ self.old.out.items) }
+    {
+        let count = snapshot.count();
+        if s < count {
+            let found = levels(team.rt, team.alloc, snapshot, s, team.workers, team.gate)?;
+            print_levels(&mut self.out, snapshot.number(), s, &found, sum)
+        } else {
+            self.refuse_vertex(command, s, count)
+        }
+    }
+
+    /// Reads the labels.
+    fn read_labels<R: Threads + Sync, G: Gate + Sync>(
+        &mut self,
+        team: &Team<R, G>,
+        snapshot: &Snapshot,
+        sum: bool,
+    ) -> Result<(), AllocError>
+        requires team { IsTeam team.now.workers }
+        requires rows { AreOfGraph snapshot.now.rows (graph_of empty_opening self.old.store.standing snapshot.now.number) }
+        ensures parser { self.new.parser ≡ self.old.parser }
+        ensures store { self.new.store ≡ self.old.store }
+        ensures printed { OnOk result (self.new.out.items ≡ self.old.out.items ++ read_lines (graph_of empty_opening self.old.store.standing snapshot.now.number) snapshot.now.number (Labels sum)) }
+        ensures err { OnErr result (self.new.out.items ≡ self.old.out.items) }
+    {
+        let found = labels(team.rt, team.alloc, snapshot, team.workers, team.gate)?;
+        print_labels(team.alloc, &mut self.out, snapshot.number(), &found, sum)
     }
 }

@@ -10,8 +10,10 @@ mod session;
 pub mod status;
 mod stop;
 mod store;
+mod team;
 #[cfg(test)]
 mod tests;
+mod words;
 mod writing;
 
 use lama_outside::{NoGate, StdSink, StdSource};
@@ -25,6 +27,7 @@ use std::marker::Brand;
 use std::mem::forget;
 use std::process::ExitCode;
 use std::sync::ledger::{Blank, Ledger};
+use std::thread::Threads;
 
 /// The words after the program's name. A word that is no text makes one empty word of them all, which
 /// is not in the grammar.
@@ -43,13 +46,17 @@ fn command_line(rt: &HostRuntime, alloc: Global) -> Result<Vec<String>, AllocErr
 }
 
 /// Runs the program over the standard streams, with a ledger of its own for the pages that it makes.
-fn run_standard<L: Ledger>(rt: &HostRuntime, words: &[String], blank: Blank) -> Status
+fn run_standard<R: AllocGlobal + Threads + Sync, L: Ledger>(
+    rt: &R,
+    mut source: StdSource,
+    mut sink: StdSink,
+    words: &[String],
+    blank: Blank,
+) -> Status
     requires name { blank.name ≡ L.name }
     requires parts { blank.parts ≡ L.parts }
     requires one { blank.parts ≡ 1 }
 {
-    let mut source = StdSource::new(rt);
-    let mut sink = StdSink::new(rt);
     let mut pages: Steps<L> = Steps::open(blank);
     let end = run_llama(
         rt,
@@ -67,7 +74,11 @@ fn run_standard<L: Ledger>(rt: &HostRuntime, words: &[String], blank: Blank) -> 
 
 fn main(rt: HostRuntime) -> ExitCode {
     let status = match command_line(&rt, rt.alloc()) {
-        Ok(words) => run_standard::<Brand>(&rt, &words, Blank::new(1)),
+        Ok(words) => {
+            let source = StdSource::new(&rt);
+            let sink = StdSink::new(&rt);
+            run_standard::<_, Brand>(&rt, source, sink, &words, Blank::new(1))
+        }
         Err(_) => Status::NoMemory,
     };
     ExitCode::from(status.code())

@@ -9,29 +9,34 @@ ghost use Rattle.lama_model.specs.Opening.{empty_opening};
 ghost use Rattle.lama_book.specs.Relation.{IsBookOf};
 ghost use Rattle.llama_main.specs.Run.{HasRead, status_of, Ran};
 ghost use Rattle.llama_main.specs.Session.{IsReady};
+ghost use Rattle.llama_main.specs.Words.{IsTeam};
 
 use crate::session::Session;
 use crate::status::Status;
 use crate::stop::Stop;
+use crate::team::Team;
 use crate::writing::flush;
-use lama_base::{Sink, Source};
+use lama_base::{Gate, Sink, Source};
 use lama_book::Book;
 use lama_pages::Steps;
 use lama_script::print_numbered;
 use std::alloc::{AllocError, Global};
 use std::sync::ledger::Ledger;
+use std::thread::Threads;
 
 /// So many bytes are read at a time.
 const PIECE: usize = 65_536;
 
 /// Reads the script to its end or to where it stops. Answers are written before each read.
-fn read_pieces<S: Source, K: Sink, L: Ledger>(
+fn read_pieces<R: Threads + Sync, G: Gate + Sync, S: Source, K: Sink, L: Ledger>(
+    team: &Team<R, G>,
     source: &mut S,
     sink: &mut K,
     session: &mut Session,
     buf: &mut [u8],
     pages: &mut Steps<L>,
 ) -> Result<(), Stop>
+    requires team { IsTeam team.now.workers }
     requires ready { IsReady session.old }
     requires room { 0 < length buf.old }
     ensures has_read { HasRead (S.left source.old) (S.left source.new) (K.written sink.old) (K.written sink.new) session.old session.new.interpreter.out.items session.new.interpreter.store.journal result }
@@ -52,9 +57,9 @@ fn read_pieces<S: Source, K: Sink, L: Ledger>(
             Err(_) => return Err(Stop::ReadFault),
         };
         if n == 0 {
-            return session.take_last(pages);
+            return session.take_last(team, pages);
         }
-        match session.take_piece(sink, &buf[..n], pages) {
+        match session.take_piece(team, sink, &buf[..n], pages) {
             Ok(()) => {}
             Err(stop) => return Err(stop),
         }
@@ -96,13 +101,14 @@ fn conclude<K: Sink>(sink: &mut K, out: &mut Vec<u8>, calls: u32, status: Status
 }
 
 /// Reads the script of the source to its end or to where it stops.
-fn read_script<S: Source, K: Sink, L: Ledger>(
-    alloc: Global,
+fn read_script<R: Threads + Sync, G: Gate + Sync, S: Source, K: Sink, L: Ledger>(
+    team: &Team<R, G>,
     source: &mut S,
     sink: &mut K,
     session: &mut Session,
     pages: &mut Steps<L>,
 ) -> Result<(), Stop>
+    requires team { IsTeam team.now.workers }
     requires ready { IsReady session.old }
     requires none { session.old.interpreter.out.items ≡ [] }
     ensures has_read { HasRead (S.left source.old) (S.left source.new) (K.written sink.old) (K.written sink.new) session.old session.new.interpreter.out.items session.new.interpreter.store.journal result }
@@ -111,8 +117,8 @@ fn read_script<S: Source, K: Sink, L: Ledger>(
     ensures write_steady { K.faults sink.old ≤ K.faults sink.new }
     ensures write_bounded { K.faults sink.old < 2 ^ 64 → K.faults sink.new < 2 ^ 64 }
 {
-    match vec![in alloc; 0u8; PIECE] {
-        Ok(mut piece) => read_pieces(source, sink, session, &mut piece, pages),
+    match vec![in team.alloc; 0u8; PIECE] {
+        Ok(mut piece) => read_pieces(team, source, sink, session, &mut piece, pages),
         Err(_) => Err(Stop::NoMemory),
     }
 }
@@ -125,24 +131,25 @@ pub struct Ended {
 }
 
 /// Runs the script of the source.
-pub fn run_script<S: Source, K: Sink, L: Ledger>(
-    alloc: Global,
+pub fn run_script<R: Threads + Sync, G: Gate + Sync, S: Source, K: Sink, L: Ledger>(
+    team: &Team<R, G>,
     source: &mut S,
     sink: &mut K,
     pages: &mut Steps<L>,
 ) -> Ended
+    requires { IsTeam team.now.workers }
     ensures ran { Ran (S.left source.old) (S.left source.new) (K.written sink.old) (K.written sink.new) result.status }
     ensures book { HasBook (S.left source.old) (S.left source.new) (K.written sink.old) (K.written sink.new) result.status result.book }
     ensures read_cause { result.status ≡ Status.ReadFault → Rose (S.faults source.old) (S.faults source.new) }
     ensures write_cause { result.status ≡ Status.WriteFault → Rose (K.faults sink.old) (K.faults sink.new) }
 {
-    let Ok(mut session) = Session::new(alloc, pages) else {
+    let Ok(mut session) = Session::new(team.alloc, pages) else {
         return Ended {
             status: Status::NoMemory,
             book: None,
         };
     };
-    let answer = read_script(alloc, source, sink, &mut session, pages);
+    let answer = read_script(team, source, sink, &mut session, pages);
     let calls = session.interpreter.calls();
     let status = status_after(answer);
     let status = conclude(sink, &mut session.interpreter.out, calls, status);

@@ -10,19 +10,24 @@ ghost use Rattle.llama_main.specs.Words.{AreInGrammar, text_under, AreRefused};
 
 use crate::run::{Ended, refuse_words, run_script};
 use crate::status::{RunEnd, Status};
+use crate::team::Team;
+use crate::words::workers_of;
 use lama_base::{Gate, Sink, Source};
+use lama_outside::NoGate;
 use lama_pages::Steps;
 use std::alloc::Global;
 use std::sync::ledger::Ledger;
+use std::thread::Threads;
 
 /// Runs a script as the words say, and always returns.
 ///
-/// The words are those after the program's name; none at all is the whole grammar so far. The script is
-/// read from the source in large pieces, and its answers are written to the sink before each read, so
-/// that a person at a terminal sees each answer before typing on. Time and memory are linear in the
-/// script and in what it prints. Nothing is asked of the runtime yet.
-pub fn run_lines<R, S: Source, K: Sink, L: Ledger>(
-    _rt: &R,
+/// The words are those after the program's name: none, or `--workers N` with N from 1 to 16, the number of threads among
+/// which the work of a command like `bfs` or `labels` is shared. What is written does not depend on it. The script is read
+/// from the source in large pieces, and its answers are written to the sink before each read, so that a person at a
+/// terminal sees each answer before typing on. Beside the commands that read a whole graph, time and memory are linear in
+/// the script and in what it prints.
+pub fn run_lines<R: Threads + Sync, S: Source, K: Sink, L: Ledger>(
+    rt: &R,
     alloc: Global,
     words: &[String],
     source: &mut S,
@@ -47,7 +52,7 @@ pub fn run_lines<R, S: Source, K: Sink, L: Ledger>(
     ensures write_fault { result.status ≡ Status.WriteFault → Rose (K.faults sink.old) (K.faults sink.new) }
     ensures cut_short { IsCut result.status → Exchanges (S.left source.old) (S.left source.new) (K.written sink.old) (K.written sink.new) (λ given taken. IsFront taken (text_under words.now given)) }
 {
-    let Ended { status, book } = run_words(alloc, words, source, sink, pages);
+    let Ended { status, book } = run_words(rt, alloc, words, source, sink, &NoGate, pages);
     RunEnd {
         status,
         book,
@@ -57,14 +62,14 @@ pub fn run_lines<R, S: Source, K: Sink, L: Ledger>(
 
 /// Runs a script as the words say. What `main` calls.
 ///
-/// It does what [`run_lines`] does, and calls no point of the gate yet.
-pub fn run_llama<R, S: Source, K: Sink, G: Gate + Sync, L: Ledger>(
+/// It does what [`run_lines`] does, and each piece of work that is shared among threads reaches point 4 of the gate first.
+pub fn run_llama<R: Threads + Sync, S: Source, K: Sink, G: Gate + Sync, L: Ledger>(
     rt: &R,
     alloc: Global,
     words: &[String],
     source: &mut S,
     sink: &mut K,
-    _gate: &G,
+    gate: &G,
     pages: &mut Steps<L>,
 ) -> RunEnd
     // Words outside the grammar: nothing is read, and the line of usage is written.
@@ -85,15 +90,22 @@ pub fn run_llama<R, S: Source, K: Sink, G: Gate + Sync, L: Ledger>(
     ensures write_fault { result.status ≡ Status.WriteFault → Rose (K.faults sink.old) (K.faults sink.new) }
     ensures cut_short { IsCut result.status → Exchanges (S.left source.old) (S.left source.new) (K.written sink.old) (K.written sink.new) (λ given taken. IsFront taken (text_under words.now given)) }
 {
-    run_lines(rt, alloc, words, source, sink, pages)
+    let Ended { status, book } = run_words(rt, alloc, words, source, sink, gate, pages);
+    RunEnd {
+        status,
+        book,
+        orders: Vec::new(alloc),
+    }
 }
 
 /// Runs the script, or refuses the words.
-fn run_words<S: Source, K: Sink, L: Ledger>(
+fn run_words<R: Threads + Sync, S: Source, K: Sink, G: Gate + Sync, L: Ledger>(
+    rt: &R,
     alloc: Global,
     words: &[String],
     source: &mut S,
     sink: &mut K,
+    gate: &G,
     pages: &mut Steps<L>,
 ) -> Ended
     ensures inside { AreInGrammar words.now → Ran (S.left source.old) (S.left source.new) (K.written sink.old) (K.written sink.new) result.status }
@@ -102,12 +114,17 @@ fn run_words<S: Source, K: Sink, L: Ledger>(
     ensures read_fault { result.status ≡ Status.ReadFault → Rose (S.faults source.old) (S.faults source.new) }
     ensures write_fault { result.status ≡ Status.WriteFault → Rose (K.faults sink.old) (K.faults sink.new) }
 {
-    if words.is_empty() {
-        run_script(alloc, source, sink, pages)
-    } else {
-        Ended {
+    let Some(workers) = workers_of(words) else {
+        return Ended {
             status: refuse_words(alloc, sink),
             book: None,
-        }
-    }
+        };
+    };
+    let team = Team {
+        rt,
+        alloc,
+        gate,
+        workers,
+    };
+    run_script(&team, source, sink, pages)
 }

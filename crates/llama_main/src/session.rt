@@ -6,18 +6,21 @@ ghost use Rattle.lama_model.specs.Opening.{empty_opening};
 ghost use Rattle.lama_book.specs.Relation.{IsBookOf};
 ghost use Rattle.llama_main.specs.Outcome.{outcome};
 ghost use Rattle.llama_main.specs.Stop.{StopsAt, IsOfScript, HasNoFeed};
+ghost use Rattle.llama_main.specs.Words.{IsTeam};
 ghost use Rattle.llama_main.specs.Session.{expected, IsReady, room, Wrote, Stopped};
 
 use crate::interpreter::Interpreter;
 use crate::stop::Stop;
+use crate::team::Team;
 use crate::writing::flush;
-use lama_base::Sink;
 use lama_base::limits::{MAX_LINE_BYTES, MAX_LINES};
+use lama_base::{Gate, Sink};
 use lama_book::Book;
 use lama_pages::Steps;
 use memchr::memchr;
 use std::alloc::{AllocError, Global};
 use std::sync::ledger::Ledger;
+use std::thread::Threads;
 
 /// So many bytes are gathered before they are written while lines are still at hand.
 const GATHERED: usize = 65_536;
@@ -78,7 +81,13 @@ impl Session {
     }
 
     /// Takes the line that ends with this part, given without its line feed.
-    fn take_part<L: Ledger>(&mut self, part: &[u8], pages: &mut Steps<L>) -> Result<(), Stop>
+    fn take_part<R: Threads + Sync, G: Gate + Sync, L: Ledger>(
+        &mut self,
+        team: &Team<R, G>,
+        part: &[u8],
+        pages: &mut Steps<L>,
+    ) -> Result<(), Stop>
+        requires team { IsTeam team.now.workers }
         requires ready { IsReady self.old }
         requires no_feed { HasNoFeed part.now }
         ensures ok { OnOk result ((more : List ℕ) → expected self.old (part.now ++ 10 ∷ more) ≡ expected self.new more) }
@@ -88,13 +97,13 @@ impl Session {
         ensures cause { IfErr result IsOfScript }
     {
         if self.carry.as_slice().is_empty() {
-            return self.interpreter.take_line(part, pages);
+            return self.interpreter.take_line(team, part, pages);
         }
         match self.carry.extend_from_slice(part) {
             Ok(()) => {}
             Err(_) => return Err(Stop::NoMemory),
         }
-        let answer = self.interpreter.take_line(&self.carry, pages);
+        let answer = self.interpreter.take_line(team, &self.carry, pages);
         self.carry.clear();
         answer
     }
@@ -127,8 +136,13 @@ impl Session {
     }
 
     /// Takes the last line, where bytes have come of it, once no more will come.
-    pub fn take_last<L: Ledger>(&mut self, pages: &mut Steps<L>) -> Result<(), Stop>
-        requires { IsReady self.old }
+    pub fn take_last<R: Threads + Sync, G: Gate + Sync, L: Ledger>(
+        &mut self,
+        team: &Team<R, G>,
+        pages: &mut Steps<L>,
+    ) -> Result<(), Stop>
+        requires team { IsTeam team.now.workers }
+        requires ready { IsReady self.old }
         ensures ok { OnOk result (expected self.old [] ≡ expected self.new []) }
         ensures none { OnOk result (self.new.carry.items ≡ []) }
         ensures err { IfErr result (λ stop. StopsAt stop self.new.interpreter.out.items self.new.interpreter.store.journal (expected self.old [])) }
@@ -137,19 +151,21 @@ impl Session {
         if self.carry.as_slice().is_empty() {
             return Ok(());
         }
-        let answer = self.interpreter.take_line(&self.carry, pages);
+        let answer = self.interpreter.take_line(team, &self.carry, pages);
         self.carry.clear();
         answer
     }
 
     /// Takes the next piece of the script. Gathered answers are written as they grow.
-    pub fn take_piece<K: Sink, L: Ledger>(
+    pub fn take_piece<R: Threads + Sync, G: Gate + Sync, K: Sink, L: Ledger>(
         &mut self,
+        team: &Team<R, G>,
         sink: &mut K,
         piece: &[u8],
         pages: &mut Steps<L>,
     ) -> Result<(), Stop>
-        requires { IsReady self.old }
+        requires team { IsTeam team.now.workers }
+        requires ready { IsReady self.old }
         ensures ok { OnOk result (Wrote (K.written sink.old) (K.written sink.new) self.old self.new piece.now) }
         ensures ready { OnOk result (IsReady self.new) }
         ensures room { OnOk result (0 < length piece.now → room self.new < room self.old) }
@@ -161,7 +177,7 @@ impl Session {
     {
         let mut rest = piece;
         'lines: while let Some((line, after)) = first_line(rest) {
-            match self.take_part(line, pages) {
+            match self.take_part(team, line, pages) {
                 Ok(()) => {}
                 Err(stop) => return Err(stop),
             }

@@ -2,21 +2,25 @@ ghost use Rattle.std.specs.Prelude.{◌≡◌};
 
 use crate::run_llama::run_llama;
 use crate::status::Status;
+use lama_base::Gate;
 use lama_base::limits::{MAX_LINE_BYTES, MAX_LINES};
-use lama_outside::{MemSink, MemSource, NoGate};
+use lama_outside::{Meeting, MemSink, MemSource, NoGate};
 use lama_pages::Steps;
-use std::alloc::AllocError;
+use lama_script::print_numbered;
+use std::alloc::{AllocError, Global};
 use std::marker::Brand;
 use std::process::Abort;
 use std::sync::ledger::{Blank, Ledger};
 use std::test::Fail;
+use std::thread::Threads;
 
 /// Runs the script of the source, which counts the pages in the ledger that the blank opens.
-fn run<L: Ledger, R: AllocGlobal>(
+fn run<L: Ledger, R: AllocGlobal + Threads + Sync, G: Gate + Sync>(
     rt: &R,
     words: &[String],
     source: &mut MemSource,
     sink: &mut MemSink,
+    gate: &G,
     blank: Blank,
 ) -> Status
     requires name { blank.name ≡ L.name }
@@ -24,11 +28,20 @@ fn run<L: Ledger, R: AllocGlobal>(
     requires one { blank.parts ≡ 1 }
 {
     let mut pages: Steps<L> = Steps::open(blank);
-    run_llama(rt, rt.alloc(), words, source, sink, &NoGate, &mut pages).status
+    run_llama(rt, rt.alloc(), words, source, sink, gate, &mut pages).status
+}
+
+/// These words of a command line.
+fn words_of(alloc: Global, list: &[&str]) -> Result<Vec<String>, AllocError> {
+    let mut words = Vec::new(alloc);
+    for word in list {
+        words.push(String::from_str(alloc, word)?)?;
+    }
+    Ok(words)
 }
 
 /// Runs a script without words, in so many bytes at a time. Reads and writes of these numbers fail.
-fn run_script<R: AllocGlobal>(
+fn run_script<R: AllocGlobal + Threads + Sync>(
     rt: &R,
     script: &[u8],
     most: usize,
@@ -43,13 +56,20 @@ fn run_script<R: AllocGlobal>(
     );
     let mut sink = MemSink::new(Vec::new(alloc), most, Vec::from_slice(alloc, bad_writes)?);
     let words = Vec::new(alloc);
-    let status = run::<Brand, R>(rt, &words, &mut source, &mut sink, Blank::new(1));
+    let status = run::<Brand, R, NoGate>(
+        rt,
+        &words,
+        &mut source,
+        &mut sink,
+        &NoGate,
+        Blank::new(1),
+    );
     let text = Vec::from_slice(alloc, sink.bytes())?;
     Ok((status, text))
 }
 
 /// The script gives this text and ends so, whatever the sizes of reads and writes are.
-fn gives<R: AllocGlobal + Abort>(
+fn gives<R: AllocGlobal + Abort + Threads + Sync>(
     rt: &R,
     script: &[u8],
     text: &[u8],
@@ -214,15 +234,19 @@ fn so_many_snapshots_are_kept(rt: HostRuntime) -> Result<(), Fail> {
 }
 
 /// Words that are not in the grammar are refused, and nothing is read.
-fn refuses<R: AllocGlobal + Abort>(rt: &R, list: &[&str]) -> Result<(), Fail> {
+fn refuses<R: AllocGlobal + Abort + Threads + Sync>(rt: &R, list: &[&str]) -> Result<(), Fail> {
     let alloc = rt.alloc();
-    let mut words = Vec::new(alloc);
-    for word in list {
-        words.push(String::from_str(alloc, word)?)?;
-    }
+    let words = words_of(alloc, list)?;
     let mut source = MemSource::new(Vec::from_slice(alloc, b"row 0\n")?, 4, Vec::new(alloc));
     let mut sink = MemSink::new(Vec::new(alloc), 2, Vec::new(alloc));
-    let status = run::<Brand, R>(rt, &words, &mut source, &mut sink, Blank::new(1));
+    let status = run::<Brand, R, NoGate>(
+        rt,
+        &words,
+        &mut source,
+        &mut sink,
+        &NoGate,
+        Blank::new(1),
+    );
     assert_eq!(rt; status.code(), 2);
     assert_eq!(rt; sink.bytes(), b"usage\n".as_slice());
     assert_eq!(rt; source.bytes(), b"row 0\n".as_slice());
@@ -231,7 +255,100 @@ fn refuses<R: AllocGlobal + Abort>(rt: &R, list: &[&str]) -> Result<(), Fail> {
 
 #[test]
 fn words_are_refused_and_nothing_is_read(rt: HostRuntime) -> Result<(), Fail> {
-    refuses(&rt, &["--workers", "17"])?;
-    refuses(&rt, &["--open", "--load", "x"])?;
-    refuses(&rt, &["--"])
+    let refused: [&[&str]; 13] = [
+        &["--workers", "17"],
+        &["--open", "--load", "x"],
+        &["--"],
+        &["--workers"],
+        &["--workers", "0"],
+        &["--workers", ""],
+        &["--workers", "+4"],
+        &["--workers", "4294967297"],
+        &["--workers=4"],
+        &["4", "--workers"],
+        &["--worker", "4"],
+        &["--workers", "4", "4"],
+        &[""],
+    ];
+    for list in refused {
+        refuses(&rt, list)?;
+    }
+    Ok(())
+}
+
+/// The script gives this text for each number of workers.
+fn gives_with_workers<R: AllocGlobal + Abort + Threads + Sync>(
+    rt: &R,
+    script: &[u8],
+    text: &[u8],
+) -> Result<(), Fail> {
+    for workers in ["1", "2", "16", "0016"] {
+        let (status, written) = run_with(rt, &["--workers", workers], script, &NoGate)?;
+        assert_eq!(rt; status, Status::Done);
+        assert_eq!(rt; written.as_slice(), text);
+    }
+    Ok(())
+}
+
+/// Runs a script with these words, at that gate.
+fn run_with<R: AllocGlobal + Threads + Sync, G: Gate + Sync>(
+    rt: &R,
+    list: &[&str],
+    script: &[u8],
+    gate: &G,
+) -> Result<(Status, Vec<u8>), AllocError> {
+    let alloc = rt.alloc();
+    let words = words_of(alloc, list)?;
+    let mut source = MemSource::new(Vec::from_slice(alloc, script)?, 1_000_000, Vec::new(alloc));
+    let mut sink = MemSink::new(Vec::new(alloc), 1_000_000, Vec::new(alloc));
+    let status = run::<Brand, R, G>(rt, &words, &mut source, &mut sink, gate, Blank::new(1));
+    let text = Vec::from_slice(alloc, sink.bytes())?;
+    Ok((status, text))
+}
+
+#[test]
+fn levels_and_labels_are_the_same_for_every_number_of_workers(rt: HostRuntime) -> Result<(), Fail> {
+    let done: [(&[u8], &[u8]); 4] = [
+        (
+            b"vertices 5\nadd 0 1\nadd 1 2\nadd 2 3\ncheckpoint\nbfs 0\nbfs 0 sum\nlabels\nlabels sum\n",
+            b"vertices 5\nsnapshot 1\nbfs 1 0\n0 0\n1 1\n2 2\n3 3\n4 -\nbfs 1 0 sum 4 3 6\nlabels 1 2\n0 0\n1 0\n2 0\n3 0\n4 4\nlabels 1 sum 2 4 4\nend 9\n",
+        ),
+        // A deletion parts what was joined, and the older snapshot stays as it was. Its edges are of three levels.
+        (
+            b"vertices 6\nadd 0 1\nadd 1 2\ncheckpoint\nadd 2 3\nadd 4 5\ncheckpoint\nadd 3 4\ncheckpoint\ndel 1 2\ncheckpoint\n@3 bfs 0 sum\nbfs 0 sum\n@3 labels sum\nlabels sum\nbfs 2\nlabels\n@2 bfs 2 sum\n@2 labels sum\n",
+            b"vertices 6\nsnapshot 1\nsnapshot 2\nsnapshot 3\nsnapshot 4\nbfs 3 0 sum 6 5 15\nbfs 4 0 sum 2 1 1\nlabels 3 sum 1 6 0\nlabels 4 sum 2 4 8\nbfs 4 2\n0 -\n1 -\n2 0\n3 1\n4 2\n5 3\nlabels 4 2\n0 0\n1 0\n2 2\n3 2\n4 2\n5 2\nbfs 2 2 sum 2 1 1\nlabels 2 sum 2 4 8\nend 19\n",
+        ),
+        (
+            b"bfs 0\nbfs 0 sum\nlabels\nlabels sum\n@1 bfs 0\n@1 labels\n",
+            b"unknown vertex 0 of 0\nunknown vertex 0 of 0\nlabels 0 0\nlabels 0 sum 0 0 0\nno snapshot 1 of 0 0\nno snapshot 1 of 0 0\nend 6\n",
+        ),
+        // Walks go along edges, and components do not ask for their direction. A loop and parallel edges change nothing.
+        (
+            b"vertices 4\nadd 3 1\nadd 3 1 9\nadd 1 1\nadd 2 1\ncheckpoint\nbfs 3\nbfs 1 sum\nlabels\nbfs 4\n",
+            b"vertices 4\nsnapshot 1\nbfs 1 3\n0 -\n1 1\n2 -\n3 0\nbfs 1 1 sum 1 0 0\nlabels 1 2\n0 0\n1 1\n2 1\n3 1\nunknown vertex 4 of 4\nend 10\n",
+        ),
+    ];
+    for (script, text) in done {
+        gives_with_workers(&rt, script, text)?;
+    }
+    Ok(())
+}
+
+/// Vertex 0 has edges to 1,000 vertices, from which the next level is looked for in pieces.
+#[test]
+fn pieces_of_levels_meet_at_the_gate(rt: HostRuntime) -> Result<(), Fail> {
+    let mut script = Vec::new(rt.alloc());
+    script.extend_from_slice(b"vertices 1001\n")?;
+    for i in 1..1001 {
+        print_numbered(&mut script, b"add 0 ", i)?;
+    }
+    script.extend_from_slice(b"checkpoint\nbfs 0 sum\n")?;
+    let gate = Meeting::new();
+    let (_, text) = run_with(&rt, &["--workers", "2"], &script, &gate)?;
+    assert!(rt; gate.met());
+    assert_eq!(rt;
+        text.as_slice(),
+        b"vertices 1001\nsnapshot 1\nbfs 1 0 sum 1001 1 1000\nend 1003\n".as_slice()
+    );
+    Ok(())
 }

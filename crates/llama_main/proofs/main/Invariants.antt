@@ -2,4 +2,4 @@
 use Rattle.llama_main.proofs.main.Given as goal
 
 abbrev pub ghosts-run_standard : goal.ghosts-run_standard
-ghosts-run_standard a = record { name = a.blank.name; parts = a.blank.parts }
+ghosts-run_standard a b = record { name = b.blank.name; parts = b.blank.parts }

@@ -1,9 +1,9 @@
 use Rattle.std.proofs.Common.{◌≡◌, refl, ◌+◌, arith, length}
 use Rattle.std.specs.List.{flat_map}
 use Rattle.std.proofs.lemmas.Result.{IfOk-weaker}
-use Rattle.lama_work.proofs.Cover.{starts-rise, starts-within, cover}
+use Rattle.lama_work.proofs.Cover.{starts-rise, starts-within, cover, both-ok}
 use Rattle.lama_bfs.specs.Frontier.{new_targets}
-use Rattle.lama_bfs.proofs.Marks.{new-joins, both-ok}
+use Rattle.lama_bfs.proofs.Marks.{new-joins}
 use Rattle.lama_bfs.proofs.frontier.in_pieces.Goals as goal
 
 pub map_pieces-requires-clause-accepts : goal.map_pieces-requires-clause-accepts
@@ -20,5 +20,5 @@ returns g c =
     let w = c.args.workers in
     IfOk-weaker c.map_pieces.result _ (λ v. flat_map (λ piece. piece.items) v.items ≡ new_targets rows c.args.levels.now us)
     (λ v both. cover (λ piece. piece.items) (new_targets rows c.args.levels.now) (new-joins rows c.args.levels.now) refl us n w c.requires.some refl v.items both.0
-    (λ i d lt. (both.1 i d lt).1.met))
+    (λ i d lt. (both.1 i d lt).met))
     (both-ok c.map_pieces.result _ _ c.map_pieces.ensures.len c.map_pieces.ensures.each)

@@ -10,5 +10,5 @@ pub returns-clause-printed : goal.returns-clause-printed
 returns-clause-printed c =
     let g = graph_of empty_opening c.args.self.now.store.standing c.args.snapshot.now.number in
     let rows = c.args.snapshot.now.rows in
-    let same = ap (λ k. edges_lines k rows) c.number.ensures.is ∙ edges-read g rows c.args.snapshot.now.number c.requires in
+    let same = ap (λ k. edges_lines k rows) c.number.ensures.is ∙ edges-read g rows c.args.snapshot.now.number c.requires.rows in
     on_ok_weaker c.print_edges.result (λ h. h ∙ ap (λ xs. c.args.self.now.out.items ++ xs) same) c.print_edges.ensures.ok

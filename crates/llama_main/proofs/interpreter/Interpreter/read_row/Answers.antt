@@ -13,12 +13,12 @@ returns-then-v-count-clause-printed c =
     let rows = c.args.snapshot.now.rows in
     let lt = c.if-v-count.true in
     let count = c.count-count.ensures.count in
-    let many = c.requires.count in
-    let same = ap (λ k. row_line k c.args.v (row_at rows c.args.v)) c.number.ensures.is ∙ row-read g rows c.args.snapshot.now.number c.args.v c.requires (omega (arith, lt, count, many)) in
+    let many = c.requires.rows.count in
+    let same = ap (λ k. row_line k c.args.v (row_at rows c.args.v)) c.number.ensures.is ∙ row-read g rows c.args.snapshot.now.number c.args.v c.requires.rows (omega (arith, lt, count, many)) in
     on_ok_weaker c.print_row.result (λ h. h ∙ ap (λ xs. c.args.self.now.out.items ++ xs) same) c.print_row.ensures.ok
 
 pub returns-else-v-count-clause-printed : goal.returns-else-v-count-clause-printed
 returns-else-v-count-clause-printed c =
     let g = graph_of empty_opening c.args.self.now.store.standing c.args.snapshot.now.number in
-    let same = row-refused g c.args.command.now c.count-count.result c.args.snapshot.now.number c.args.v (c.count-count.ensures.count ∙ c.requires.count) c.if-v-count.false in
-    on_ok_weaker c.print_reply.result (λ h. h ∙ ap (λ xs. c.args.self.now.out.items ++ xs) same) c.print_reply.ensures.ok
+    let same = row-refused g c.count-count.result c.args.snapshot.now.number c.args.v (c.count-count.ensures.count ∙ c.requires.rows.count) c.if-v-count.false in
+    on_ok_weaker c.refuse_vertex.result (λ h. h ∙ ap (λ xs. c.args.self.now.out.items ++ xs) same) c.refuse_vertex.ensures.printed
