@@ -16,3 +16,4 @@ pub mod WriteLemmas
 pub mod Applied
 pub mod SnapAfter
 pub mod Change
+pub mod TargetRows

@@ -3,6 +3,7 @@ pub mod BaseRows
 pub mod Cells
 pub mod Chains
 pub mod Snap
+pub mod Targets
 pub mod Written
 pub mod Levels
 pub mod Shown

@@ -10,11 +10,13 @@ mod base;
 mod found;
 mod level;
 mod snapshot;
+mod targets;
 mod writer;
 
 pub use base::{Base, BaseAt};
 pub use level::SnapshotAt;
 pub use snapshot::{RowAt, Snapshot};
+pub use targets::Targets;
 
 #[cfg(test)]
 mod tests;

@@ -6,7 +6,7 @@ ghost use Rattle.lama_model.specs.Change.{RowChange as SeenRow, row_after};
 ghost use Rattle.lama_delta.specs.Seen.{seen_row, seen_rows};
 ghost use Rattle.lama_model.specs.Bounds.{added_edges, killed_edges, checkpoint_pages};
 ghost use Rattle.lama_model.specs.Fits.{Fits, HasIndexes};
-ghost use Rattle.lama_snapshot.specs.Cells.{standing, stands, visible};
+ghost use Rattle.lama_snapshot.specs.Cells.{standing, stands, visible, weight_at};
 ghost use Rattle.lama_edges.specs.declared.records.Slot.TheVariants.{Edge as SeenEdge};
 ghost use Rattle.lama_snapshot.specs.Chains.{IsPlace, place_cells, slot_at, IsEdgeCell, IsAtCell};
 ghost use Rattle.lama_snapshot.specs.Snap.{floor_of, change_at, IsCell};
@@ -409,6 +409,29 @@ impl Snapshot {
         None
     }
 
+    // The target and the cell of the next edge that stands, from a place on, and the place behind it.
+    #[inline(always)]
+    pub(crate) fn next_edge(&self, at: RowAt) -> Option<(u32, Cell, RowAt)>
+        requires place { IsPlace self.now.layout (length self.now.rows) at.place.v at.place.level at.place.offset at.place.left }
+        requires left { at.left ≡ length (visible self.now.columns (place_cells self.now.layout at.place.v at.place.level at.place.offset at.place.left)) }
+        ensures { MatchOption result (visible self.now.columns (place_cells self.now.layout at.place.v at.place.level at.place.offset at.place.left) ≡ []) (λ found.
+            IsPlace self.now.layout (length self.now.rows) found.2.place.v found.2.place.level found.2.place.offset found.2.place.left
+            × (found.2.left ≡ length (visible self.now.columns (place_cells self.now.layout found.2.place.v found.2.place.level found.2.place.offset found.2.place.left)))
+            × IsCell self.now.columns found.1
+            × (visible self.now.columns (place_cells self.now.layout at.place.v at.place.level at.place.offset at.place.left)
+            ≡ (found.0, weight_at self.now.columns found.1) ∷ visible self.now.columns (place_cells self.now.layout found.2.place.v found.2.place.level found.2.place.offset found.2.place.left))) }
+    {
+        if at.left == 0 {
+            return None;
+        }
+        let (cell, place) = self.next_standing(at.place)?;
+        let rest = RowAt {
+            place,
+            left: at.left - 1,
+        };
+        Some((self.target_at(cell), cell, rest))
+    }
+
     // The target of the edge in the cell.
     #[inline(always)]
     fn target_at(&self, cell: Cell) -> u32
@@ -563,15 +586,8 @@ impl Rows for Snapshot {
 
     #[inline(always)]
     fn next(&self, at: RowAt) -> Option<(u32, u64, RowAt)> {
-        if at.left == 0 {
-            return None;
-        }
-        let (cell, place) = self.next_standing(at.place)?;
+        let (target, cell, rest) = self.next_edge(at)?;
         let weights = &self.weights[cell.table as usize];
-        let rest = RowAt {
-            place,
-            left: at.left - 1,
-        };
-        Some((self.target_at(cell), weights.weight(cell.place), rest))
+        Some((target, weights.weight(cell.place), rest))
     }
 }

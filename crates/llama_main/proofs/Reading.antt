@@ -1,12 +1,12 @@
 -- What a reading command prints.
-use Rattle.std.proofs.Common.{◌≡◌, ℕ, ◌+◌, ◌<◌, ◌≤◌, Bool, true, false, cond, List, [], length, refl, sym, ap, ◌∙◌, arith, Option}
+use Rattle.std.proofs.Common.{◌≡◌, ℕ, ◌+◌, ◌<◌, ◌≤◌, Bool, true, false, cond, List, [], ◌∷◌, length, map, refl, sym, ap, ◌∙◌, arith, Option}
 use Rattle.std.specs.Prelude.{nat_lt}
 use Rattle.std.proofs.lemmas.Bool.Decides.{nat_tests}
 use Rattle.std.proofs.lemmas.List.{ext_get_or}
 use Rattle.std.proofs.lemmas.List.FromFn.{get_or-map-range_with_len, length-map-range_with_len}
 use Rattle.lama_model.specs.Graph.{Graph, IsGraph}
-use Rattle.lama_model.specs.Row.{row, row_at, rows_of, AreRowsOf, AreSame, graph_of_rows}
-use Rattle.lama_model.specs.Levels.{level, levels}
+use Rattle.lama_model.specs.Row.{row, row_at, rows_of, AreRowsOf, graph_of_rows}
+use Rattle.lama_model.specs.Levels.{is_among, leads, level, levels}
 use Rattle.lama_model.specs.Labels.{label, labels, AreFirst}
 use Rattle.lama_model.specs.Opening.{empty_opening}
 use Rattle.lama_model.specs.Journal.{reply_at}
@@ -24,7 +24,9 @@ use Rattle.lama_model.specs.declared.answers.Refusal.TheVariants.{UnknownVertex}
 use Rattle.lama_model.proofs.RowsOfGraph.{row-of-rows}
 use Rattle.lama_model.proofs.LevelLaw.{levels_same}
 use Rattle.lama_model.proofs.LabelLaw.{graph-ends, labels_are, labels_same, labels_first}
-use Rattle.lama_model.proofs.Leading.{leads-same}
+use Rattle.lama_model.proofs.Leading.{leads-graph}
+use Rattle.lama_snapshot.specs.Targets.{targets_of, all_targets}
+use Rattle.lama_snapshot.proofs.TargetRows.{row-targets, count-targets}
 use Rattle.lama_book.proofs.Checkpointing.{row-everywhere}
 use Rattle.llama_main.specs.Store.{Held}
 use Rattle.llama_main.specs.Expected.{printed, printed_reading, held_after}
@@ -78,17 +80,24 @@ pub edges-read : (g : Graph) (rows : List (List (ℕ × ℕ))) (k : ℕ) → Are
 unfolding read_lines
 edges-read g rows k of = ap (edges_lines k) (all-rows g rows of)
 
--- the rows have the same graph
-same-graph : (g : Graph) (rows : List (List (ℕ × ℕ))) → AreRowsOf rows g → IsGraph g → AreSame (graph_of_rows rows) g
-same-graph g rows of is = record { count = of.count; rows = λ v. row-of-rows rows v ∙ row-everywhere rows g v of is }
+-- the targets alone decide which edges lead
+firsts : (row : List (ℕ × ℕ)) → map (λ p. p.0) (targets_of row) ≡ map (λ p. p.0) row
+firsts [] = refl
+firsts (p ∷ row) = ap (λ l. p.0 ∷ l) (firsts row)
+
+leads-targets : (g : Graph) (rows : List (List (ℕ × ℕ))) → AreRowsOf rows g → IsGraph g → (u v : ℕ) → leads (graph_of_rows (all_targets rows)).edges u v ≡ leads g.edges u v
+leads-targets g rows of is u v =
+    leads-graph (graph_of_rows (all_targets rows)) u v
+    ∙ (ap (λ r. is_among v (map (λ p. p.0) r)) (row-of-rows (all_targets rows) u ∙ row-targets rows u)
+    ∙ (ap (is_among v) (firsts (row_at rows u) ∙ ap (map (λ p. p.0)) (row-everywhere rows g u of is))
+    ∙ sym (leads-graph g u v)))
 
 -- all levels
-pub levels-read : (g : Graph) (rows : List (List (ℕ × ℕ))) (k s : ℕ) (sum : Bool) → AreRowsOf rows g → IsGraph g → s < g.count → levels_text k s (levels (graph_of_rows rows) s) sum ≡ read_lines g k (Bfs s sum)
+pub levels-read : (g : Graph) (rows : List (List (ℕ × ℕ))) (k s : ℕ) (sum : Bool) → AreRowsOf rows g → IsGraph g → s < g.count → levels_text k s (levels (graph_of_rows (all_targets rows)) s) sum ≡ read_lines g k (Bfs s sum)
 unfolding read_lines
 levels-read g rows k s sum of is below =
     let test : nat_lt s g.count ≡ true = grind (arith, nat_tests) in
-    let same = same-graph g rows of is in
-    ap (λ ls. levels_text k s ls sum) (levels_same (graph_of_rows rows) g same.count (leads-same (graph_of_rows rows) g same) s)
+    ap (λ ls. levels_text k s ls sum) (levels_same (graph_of_rows (all_targets rows)) g (count-targets rows ∙ of.count) (leads-targets g rows of is) s)
     ∙ sym (ap (λ (b : Bool). cond b (levels_text k s (levels g s) sum) (refusal_line (UnknownVertex s g.count))) test)
 
 -- a source that isn't there
@@ -104,8 +113,8 @@ unfolding levels
 levels-count g s = length-map-range_with_len (level g s) 0 g.count
 
 -- all labels
-pub labels-same : (g : Graph) (rows : List (List (ℕ × ℕ))) → AreRowsOf rows g → IsGraph g → labels (graph_of_rows rows) ≡ labels g
-labels-same g rows of is = let same = same-graph g rows of is in labels_same (graph_of_rows rows) g is same.count (leads-same (graph_of_rows rows) g same)
+pub labels-same : (g : Graph) (rows : List (List (ℕ × ℕ))) → AreRowsOf rows g → IsGraph g → labels (graph_of_rows (all_targets rows)) ≡ labels g
+labels-same g rows of is = labels_same (graph_of_rows (all_targets rows)) g is (count-targets rows ∙ of.count) (leads-targets g rows of is)
 
 pub labels-read : (g : Graph) (k : ℕ) (sum : Bool) → labels_text k (labels g) sum ≡ read_lines g k (Labels sum)
 unfolding read_lines

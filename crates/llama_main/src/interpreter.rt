@@ -26,7 +26,7 @@ use lama_script::{
     Command, Item, Parser, Read, ScriptFault, print_edges, print_labels, print_levels, print_reply,
     print_row,
 };
-use lama_snapshot::Snapshot;
+use lama_snapshot::{Snapshot, Targets};
 use std::alloc::{AllocError, Global};
 use std::sync::ledger::Ledger;
 use std::thread::Threads;
@@ -240,7 +240,8 @@ impl Interpreter {
     {
         let count = snapshot.count();
         if s < count {
-            let found = levels(team.rt, team.alloc, snapshot, s, team.workers, team.gate)?;
+            let targets = Targets::new(snapshot);
+            let found = levels(team.rt, team.alloc, &targets, s, team.workers, team.gate)?;
             print_levels(&mut self.out, snapshot.number(), s, &found, sum)
         } else {
             self.refuse_vertex(command, s, count)
@@ -261,7 +262,8 @@ impl Interpreter {
         ensures printed { OnOk result (self.new.out.items ≡ self.old.out.items ++ read_lines (graph_of empty_opening self.old.store.standing snapshot.now.number) snapshot.now.number (Labels sum)) }
         ensures err { OnErr result (self.new.out.items ≡ self.old.out.items) }
     {
-        let found = labels(team.rt, team.alloc, snapshot, team.workers, team.gate)?;
+        let targets = Targets::new(snapshot);
+        let found = labels(team.rt, team.alloc, &targets, team.workers, team.gate)?;
         print_labels(team.alloc, &mut self.out, snapshot.number(), &found, sum)
     }
 }

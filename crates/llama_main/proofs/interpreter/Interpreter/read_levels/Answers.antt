@@ -2,16 +2,20 @@ use Rattle.std.proofs.Common.{◌++◌, length, ap, ◌∙◌, arith}
 use Rattle.std.proofs.lemmas.Result.{on_ok_weaker}
 use Rattle.lama_model.specs.Opening.{empty_opening}
 use Rattle.lama_model.specs.Journal.{graph_of}
+use Rattle.lama_model.specs.Levels.{levels}
 use Rattle.lama_model.specs.Lines.{levels_text}
 use Rattle.lama_model.specs.Row.{graph_of_rows}
+use Rattle.lama_snapshot.specs.Snap.{Snap}
+use Rattle.lama_snapshot.specs.Targets.{all_targets}
+use Rattle.lama_snapshot.proofs.TargetRows.{count-targets}
 use Rattle.llama_main.proofs.Reading.{levels-read, levels-refused, levels-count}
 use Rattle.llama_main.proofs.interpreter.Interpreter.read_levels.Goals as goal
 
 pub print_levels-requires : goal.print_levels-requires
 print_levels-requires g c =
     let rows = c.args.snapshot.now.rows in
-    let found = c.deref.ensures.value ∙ c.in_ok-found.ensures in
-    let many = ap length found ∙ levels-count (graph_of_rows rows) c.args.s in
+    let found = c.deref.ensures.value ∙ (c.in_ok-found.ensures ∙ ap (λ (t : Snap). levels (graph_of_rows (all_targets t.rows)) c.args.s) c.new-targets.ensures) in
+    let many = ap length found ∙ (levels-count (graph_of_rows (all_targets rows)) c.args.s ∙ count-targets rows) in
     let count = c.requires.rows.rows.count in
     let few = c.requires.rows.graph.vertices in
     omega (arith, many, count, few)
@@ -23,7 +27,7 @@ returns-in_ok-found-clause-printed g c =
     let lt = c.if-s-count.true in
     let count = c.count-count.ensures.count in
     let many = c.requires.rows.rows.count in
-    let found = c.deref.ensures.value ∙ c.in_ok-found.ensures in
+    let found = c.deref.ensures.value ∙ (c.in_ok-found.ensures ∙ ap (λ (t : Snap). levels (graph_of_rows (all_targets t.rows)) c.args.s) c.new-targets.ensures) in
     let same =
     ap (λ k. levels_text k c.args.s c.deref.result.now c.args.sum) c.number.ensures.is
     ∙ (ap (λ ls. levels_text c.args.snapshot.now.number c.args.s ls c.args.sum) found
