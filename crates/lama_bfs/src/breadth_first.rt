@@ -1,15 +1,21 @@
 //! Levels, found from frontier to frontier.
 
-ghost use Rattle.std.specs.Prelude.{◌≡◌, ◌<◌, ◌≤◌, IfOk, OnOk, length};
-ghost use Rattle.lama_model.specs.Row.{AreTargetsBelow, graph_of_rows};
+ghost use Rattle.std.specs.Prelude.{◌≡◌, ◌<◌, ◌≤◌, IfOk, IfSome, length};
+ghost use Rattle.lama_model.specs.Row.{edges_in, graph_of_rows};
 ghost use Rattle.lama_model.specs.Levels.{levels};
-ghost use Rattle.lama_bfs.specs.Frontier.{targets_of, AreMarked};
+ghost use Rattle.lama_bfs.specs.Flat.{IsFlat};
 
+use crate::flat::Flat;
 use crate::frontier::Search;
 use lama_base::Gate;
 use lama_model::Rows;
 use std::alloc::{AllocError, Global};
 use std::thread::Threads;
+
+// A frontier is large where it has so many vertices, and one of so many vertices of the graph.
+const LARGE: usize = 400;
+
+const PART: usize = 32;
 
 /// The level of each vertex from `source`, by its number: the least number of edges of a walk to it, and None where no
 /// walk leads to it. The source itself has level 0.
@@ -30,6 +36,7 @@ where
     R::At: Send,
     requires source { source < length (R.rows rows.now) }
     requires vertices { length (R.rows rows.now) ≤ 4194304 }
+    requires edges { edges_in (R.rows rows.now) ≤ 33554432 }
     requires some { 1 ≤ workers }
     requires few { workers ≤ 16 }
     ensures { IfOk result (λ v. v.items ≡ levels (graph_of_rows (R.rows rows.now)) source) }
@@ -42,11 +49,36 @@ where
         next: vec![in alloc; source]?,
         spare: Vec::new(alloc),
     };
+    let mut flat = None;
     let mut level = 0;
     while !search.next.is_empty() {
         level += 1;
-        search.next_level(rt, alloc, rows, level, workers, gate)?;
+        flat = flat_for(alloc, rows, flat, search.next.len(), workers)?;
+        search.next_level(rt, alloc, rows, &flat, level, workers, gate)?;
     }
     let Search { levels, .. } = search;
     Ok(levels)
+}
+
+// The rows laid flat, where they are so already or where one worker comes to a frontier that is so large a part of all
+// vertices that most of them may be expected to follow it.
+fn flat_for<R: Rows>(
+    alloc: Global,
+    rows: &R,
+    flat: Option<Flat>,
+    frontier: usize,
+    workers: u32,
+) -> Result<Option<Flat>, AllocError>
+    requires edges { edges_in (R.rows rows.now) ≤ 33554432 }
+    requires flat { IfSome flat (λ f. IsFlat (R.rows rows.now) f.starts.items f.targets.items) }
+    ensures { IfOk result (λ flat. IfSome flat (λ f. IsFlat (R.rows rows.now) f.starts.items f.targets.items)) }
+{
+    if flat.is_some()
+        || workers > 1
+        || frontier < LARGE
+        || frontier < rows.count() as usize / PART
+    {
+        return Ok(flat);
+    }
+    Ok(Some(Flat::of(alloc, rows)?))
 }

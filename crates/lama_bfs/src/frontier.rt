@@ -1,8 +1,10 @@
 // From one level to the next.
-ghost use Rattle.std.specs.Prelude.{◌≡◌, ◌-◌, ◌<◌, ◌≤◌, ◌^◌, ◌++◌, [], ◌∷◌, ℕ, All, IfOk, OnOk, drop, filter, flat_map, length, map, take, if◌then◌else◌};
+ghost use Rattle.std.specs.Prelude.{◌≡◌, ◌-◌, ◌<◌, ◌≤◌, ◌^◌, ◌++◌, [], ◌∷◌, All, IfOk, IfSome, OnOk, drop, filter, flat_map, length, map, take, if◌then◌else◌};
 ghost use Rattle.lama_model.specs.Row.{row_at};
 ghost use Rattle.lama_bfs.specs.Frontier.{is_new, targets_of, new_targets, mark_one, mark_all, AreMarked};
+ghost use Rattle.lama_bfs.specs.Flat.{IsFlat};
 
+use crate::flat::Flat;
 use lama_base::Gate;
 use lama_base::limits::MAX_VERTICES;
 use lama_model::Rows;
@@ -122,6 +124,24 @@ impl Search {
         Ok(())
     }
 
+    // One vertex after another, where the rows lie flat.
+    fn expand_flat<R: Rows>(
+        &mut self,
+        rows: &R,
+        flat: &Flat,
+        level: u32,
+        us: &[u32],
+    ) -> Result<(), AllocError>
+        requires within { All (λ u. u < length (R.rows rows.now)) us.now }
+        requires flat { IsFlat (R.rows rows.now) flat.now.starts.items flat.now.targets.items }
+        ensures { OnOk result ((self.new.levels.items, self.new.next.items) ≡ mark_all level (targets_of (R.rows rows.now) us.now) (self.old.levels.items, self.old.next.items)) }
+    {
+        for &u in us {
+            self.mark_list(level, flat.row(rows, u))?;
+        }
+        Ok(())
+    }
+
     // Some vertices after others, with their first edges looked up before.
     fn expand_ahead<R: Rows>(
         &mut self,
@@ -167,6 +187,7 @@ impl Search {
         rt: &T,
         alloc: Global,
         rows: &R,
+        flat: &Option<Flat>,
         level: u32,
         workers: u32,
         gate: &G,
@@ -177,12 +198,13 @@ impl Search {
         requires few { workers ≤ 16 }
         requires whole { length self.old.levels.items ≡ length (R.rows rows.now) }
         requires within { All (λ u. u < length (R.rows rows.now)) self.old.next.items }
+        requires flat { IfSome flat.now (λ f. IsFlat (R.rows rows.now) f.starts.items f.targets.items) }
         ensures { OnOk result (AreMarked level (targets_of (R.rows rows.now) self.old.next.items) self.old.levels.items self.new.levels.items self.new.next.items) }
     {
         let mut next = replace(&mut self.spare, Vec::new(alloc));
         next.clear();
         let frontier = replace(&mut self.next, next);
-        let found = self.from_frontier(rt, alloc, rows, level, &frontier, workers, gate);
+        let found = self.from_frontier(rt, alloc, rows, flat, level, &frontier, workers, gate);
         self.spare = frontier;
         found
     }
@@ -193,6 +215,7 @@ impl Search {
         rt: &T,
         alloc: Global,
         rows: &R,
+        flat: &Option<Flat>,
         level: u32,
         frontier: &[u32],
         workers: u32,
@@ -204,12 +227,15 @@ impl Search {
         requires few { workers ≤ 16 }
         requires whole { length self.old.levels.items ≡ length (R.rows rows.now) }
         requires within { All (λ u. u < length (R.rows rows.now)) frontier.now }
+        requires flat { IfSome flat.now (λ f. IsFlat (R.rows rows.now) f.starts.items f.targets.items) }
         requires none { self.old.next.items ≡ [] }
         ensures { OnOk result (AreMarked level (targets_of (R.rows rows.now) frontier.now) self.old.levels.items self.new.levels.items self.new.next.items) }
     {
         // Its value is not used: `count` promises that each target is below the number of vertices, and the proof needs that.
         let _count = rows.count();
-        if workers == 1 || frontier.len() < FEW || frontier.len() > MANY {
+        if let Some(flat) = flat {
+            self.expand_flat(rows, flat, level, frontier)
+        } else if workers == 1 || frontier.len() < FEW || frontier.len() > MANY {
             self.expand(alloc, rows, level, frontier)
         } else {
             self.expand_in_pieces(rt, alloc, rows, level, frontier, workers, gate)

@@ -2,6 +2,7 @@
 #![tactic(auto)]
 
 mod breadth_first;
+mod flat;
 mod frontier;
 
 pub use breadth_first::levels;

@@ -1,4 +1,5 @@
 ghost use Rattle.std.specs.Prelude.{◌≡◌, ◌<◌, ◌≤◌, IfOk, length};
+ghost use Rattle.lama_model.specs.Row.{edges_in};
 
 use crate::levels;
 use lama_base::Edge;
@@ -9,7 +10,8 @@ use std::test::Fail;
 
 // The rows of that many vertices and those of these edges that are within them.
 fn rows_of(alloc: Global, count: u32, pairs: &[(u32, u32)]) -> Result<PlainRows, AllocError>
-    ensures { IfOk result (λ rows. length rows ≡ count) }
+    ensures count { IfOk result (λ rows. length rows ≡ count) }
+    ensures few { IfOk result (λ rows. edges_in rows ≤ 33554432) }
 {
     let mut edges = Vec::new(alloc);
     for &(source, target) in pairs {

@@ -14,7 +14,8 @@ use Rattle.lama_model.proofs.LevelLaw.{Found, any-found}
 use Rattle.lama_model.proofs.Leading.{leads-graph}
 use Rattle.lama_model.proofs.LabelLaw.{or-cases, labels-only, joined-below}
 use Rattle.lama_model.specs.Labels.{both_ways, AreJoined, AreLabels, labels}
-use Rattle.lama_label.specs.Lowering.{edges_from, AreLow, AreEdgesOf, IsEdgeSettled, AreSettled}
+use Rattle.lama_model.specs.Row.{edges_from}
+use Rattle.lama_label.specs.Lowering.{AreLow, AreEdgesOf, IsEdgeSettled, AreSettled}
 use Rattle.lama_model.proofs.Joined.{both-leads, joined-self, joined-edge}
 use Rattle.lama_label.proofs.Lowered.{settled-edge}
 use Rattle.lama_label.proofs.Rounds.{split-flat, unmap}

@@ -45,10 +45,6 @@ abbrev pub take_own : List ℕ → List ℕ → List ℕ
 take_own [] ls = ls
 take_own (v ∷ vs) ls = take_own vs (take_one (v, second ls v) ls)
 
--- the edges that leave these vertices, as source and target
-abbrev pub edges_from : List (List (ℕ × ℕ)) → List ℕ → List (ℕ × ℕ)
-edges_from rows us = flat_map (λ u. map (λ p. (u, p.0)) (row_at rows u)) us
-
 -- each of these labels offered to its own vertex, which for the first is v
 abbrev pub offered : ℕ → List ℕ → List (ℕ × ℕ)
 offered v [] = []

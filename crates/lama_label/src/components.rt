@@ -17,11 +17,12 @@ const FEW: u32 = 400;
 /// The label of each vertex, by its number: the least vertex of its weak component, which is all that walks lead to that
 /// may take each edge in either direction.
 ///
-/// The edges are put into lists first, of eight bytes for each. In each round every edge offers to its ends, and to their
-/// labels, the lower one of the labels of their labels (after FastSV: Zhang, Azad and Hu, FastSV: A Distributed-Memory
-/// Connected Component Algorithm with Fast Convergence, 2020). A round costs the vertices and the edges. With one worker,
-/// or for few vertices, it is done in place and takes no memory; else in a piece for each worker, each of which reaches the
-/// gate before its work and has a copy of the labels. The only error is want of memory.
+/// The edges are put into lists first, of eight bytes for each, in a piece of the vertices for each worker, or in one where
+/// there are few vertices. In each round every edge offers to its ends, and to their labels, the lower one of the labels of
+/// their labels (after FastSV: Zhang, Azad and Hu, FastSV: A Distributed-Memory Connected Component Algorithm with Fast
+/// Convergence, 2020). A round costs the vertices and the edges. It is done in place and takes no memory where there is one
+/// list, or where the lists are short beside the vertices; else in a piece for each list, with a copy of the labels. Each piece
+/// reaches the gate before its work. The only error is want of memory.
 pub fn labels<T: Threads + Sync, R: Rows + Sync, G: Gate + Sync>(
     rt: &T,
     alloc: Global,

@@ -3,15 +3,15 @@
 // The edges are put into lists first, one for each piece of the vertices, so that no round walks the rows again. A round
 // is done in place where there is one list, or where there are few edges. Else each list is done in a copy of the labels,
 // and then the lower one of what the copies have is taken for each vertex.
-ghost use Rattle.std.specs.Prelude.{◌≡◌, ◌<◌, ◌-◌, ◌≤◌, ◌++◌, ℕ, List, All, IfOk, OnOk, drop, length, map, slice_index, slice_index_or, sum, take};
+ghost use Rattle.std.specs.Prelude.{◌≡◌, ◌<◌, ◌-◌, ◌≤◌, ℕ, List, All, IfOk, OnOk, drop, length, map, slice_index, slice_index_or, sum, take};
 ghost use Rattle.std.specs.List.{flat_map, range_with_len};
 ghost use Rattle.lama_model.specs.Graph.{Graph};
-ghost use Rattle.lama_model.specs.Row.{row_at};
-ghost use Rattle.lama_label.specs.Lowering.{second, take_all, take_own, edges_from, offered, AreLow, AreEdgesOf, AreSettled, IsLowered};
+ghost use Rattle.lama_model.specs.Row.{edges_from};
+ghost use Rattle.lama_label.specs.Lowering.{second, take_all, take_own, offered, AreLow, AreEdgesOf, AreSettled, IsLowered};
 ghost use Rattle.lama_label.specs.Lowering as seen;
 
 use lama_base::Gate;
-use lama_model::Rows;
+use lama_model::{Rows, edges_between};
 use lama_work::map_pieces;
 use std::alloc::{AllocError, Global};
 use std::thread::Threads;
@@ -77,15 +77,16 @@ fn take_lists(labels: &mut [u32], lists: &[Vec<(u32, u32)>])
     }
 }
 
-// Whether a list has so many edges that a copy of the labels of so many vertices costs less than they do.
+// Whether a list has so many edges that a copy of the labels of so many vertices, and what is seen later in copies, cost less
+// than doing the lists one after another.
 fn are_many(lists: &[Vec<(u32, u32)>], vertices: usize) -> bool
     requires { 0 < length lists.now }
 {
-    lists[0].len() >= vertices / 2
+    lists[0].len() / 2 >= vertices
 }
 
-// Gives each vertex the label of its label, in rising order. Since a label is no greater than its vertex, it has its own
-// last label by then, so one time is enough.
+// Gives each vertex the label of its label, in rising order. A label is no greater than its vertex, so it got its own last
+// label before, and one time is enough.
 fn shorten(labels: &mut [u32])
     requires { length labels.old ≤ 4194304 }
     ensures { labels.new ≡ take_own (range_with_len 0 (length labels.old)) labels.old }
@@ -123,48 +124,6 @@ fn take_copies(labels: &mut [u32], copies: &[Vec<u32>])
     for copy in copies {
         take_copy(labels, copy);
     }
-}
-
-// Puts the edges that leave a vertex at the end.
-fn push_row<R: Rows>(rows: &R, u: u32, found: &mut Vec<(u32, u32)>) -> Result<(), AllocError>
-    requires { u < length (R.rows rows.now) }
-    ensures { OnOk result (found.new.items ≡ found.old.items ++ map (λ p. (u, p.0)) (row_at (R.rows rows.now) u)) }
-{
-    let mut at = rows.start(u);
-    while let Some((target, _, rest)) = rows.next(at) {
-        found.push((u, target))?;
-        at = rest;
-    }
-    Ok(())
-}
-
-// How many edges leave the vertices from `first` to before `end`, so that there is room for them at once.
-fn count_between<R: Rows>(rows: &R, first: u32, end: u32) -> usize
-    requires { end ≤ length (R.rows rows.now) }
-{
-    let mut total = 0;
-    for v in first..end {
-        total += rows.degree(v) as usize;
-    }
-    total
-}
-
-// The edges that leave the vertices from `start` to before `end`, as source and target.
-fn edges_between<R: Rows>(
-    alloc: Global,
-    rows: &R,
-    start: u32,
-    end: u32,
-) -> Result<Vec<(u32, u32)>, AllocError>
-    requires order { start ≤ end }
-    requires within { end ≤ length (R.rows rows.now) }
-    ensures { IfOk result (λ v. v.items ≡ edges_from (R.rows rows.now) (take (end - start) (drop start (range_with_len 0 (length (R.rows rows.now)))))) }
-{
-    let mut found = Vec::with_capacity(alloc, count_between(rows, start, end))?;
-    for u in start..end {
-        push_row(rows, u, &mut found)?;
-    }
-    Ok(found)
 }
 
 // All edges, a list for each piece of the vertices that they leave.

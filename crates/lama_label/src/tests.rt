@@ -83,3 +83,24 @@ fn two_pieces_of_a_scattered_path_meet(rt: HostRuntime) -> Result<(), Fail> {
     assert_eq!(rt; alone.iter().filter(|label| **label != 0).count(), 0);
     Ok(())
 }
+
+// Even vertices lead to even ones, and odd ones to odd. A list of two has ten times as many edges as there are vertices.
+#[test]
+fn long_lists_are_lowered_as_short_ones_are(rt: HostRuntime) -> Result<(), Fail> {
+    let alloc = rt.alloc();
+    let mut pairs = Vec::new(alloc);
+    for u in 0..500 {
+        for step in 1..21 {
+            pairs.push((u, (u + 2 * step) % 500))?;
+        }
+    }
+    let rows = rows_of(alloc, 500, &pairs)?;
+    for workers in [1, 2, 16] {
+        let found = labels(&rt, alloc, &rows, workers, &NoGate)?;
+        assert_eq!(rt; found.len(), 500);
+        for v in 0..500usize {
+            assert_eq!(rt; found.get(v), Some(&(v as u32 % 2)));
+        }
+    }
+    Ok(())
+}

@@ -6,7 +6,7 @@ use Rattle.std.proofs.lemmas.List.Sums.{length-filter, sum-map}
 use Rattle.lama_base.specs.declared.Edge.{Edge}
 use Rattle.lama_model.specs.Graph.{Graph}
 use Rattle.lama_model.specs.Row.{leaving, AreRowsOf, edges_in}
-use Rattle.lama_model.specs.Packed.{out_degree}
+use Rattle.lama_model.specs.Degrees.{out_degree}
 use Rattle.lama_model.proofs.EdgeLemmas.{row_start-all}
 use Rattle.lama_model.proofs.PlainLemmas.{sum-degrees}
 

@@ -274,7 +274,7 @@ same-reached g h same s (suc n) v e =
     let l = last-edge g.edges s n v e in
     reached-step h.edges s n l.before v (sym (same l.before v) ∙ l.edge) (same-reached g h same s n l.before l.reached)
 
-both-true : (a b : Bool) → (a ≡ true → b ≡ true) → (b ≡ true → a ≡ true) → a ≡ b
+pub both-true : (a b : Bool) → (a ≡ true → b ≡ true) → (b ≡ true → a ≡ true) → a ≡ b
 both-true true b f h = sym (f refl)
 both-true false true f h = h refl
 both-true false false f h = refl

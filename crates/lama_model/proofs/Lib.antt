@@ -15,3 +15,5 @@ pub mod LevelLaw
 pub mod Leading
 pub mod Joined
 pub mod LabelLaw
+pub mod RankLaw
+pub mod EdgePairs

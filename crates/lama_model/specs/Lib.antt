@@ -2,6 +2,8 @@ pub mod Graph
 pub mod Row
 pub mod Levels
 pub mod Labels
+pub mod Degrees
+pub mod Ranks
 pub mod Change
 pub mod Bounds
 pub mod Fits

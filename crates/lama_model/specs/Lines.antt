@@ -1,8 +1,9 @@
 -- The lines that a script's commands print. Each ends with a line feed, and has one blank between two words.
-use Rattle.std.specs.Prelude.{ℕ, suc, ◌==◌, max, nat_eq, Bool, true, false, List, [], ◌∷◌, ◌++◌, length, map, fold, sum, codes, decimal, Option, None, Some}
+use Rattle.std.specs.Prelude.{ℕ, suc, ◌==◌, max, nat_eq, Bool, true, false, List, [], ◌∷◌, ◌++◌, length, map, fold, sum, codes, decimal, Option, None, Some, slice_index}
 use Rattle.std.specs.List.{flat_map, filter_map, count_by}
 use Rattle.std.specs.Set.{distinct_count}
 use Rattle.lama_model.specs.Row.{edges_in}
+use Rattle.lama_model.specs.Levels.{first_from}
 use Rattle.lama_model.specs.Script.{End}
 use Rattle.lama_model.specs.Script.End.{Whole, BadAt, TooMany}
 use Rattle.lama_model.specs.declared.calls.Write.TheVariants.{Vertices}
@@ -55,18 +56,18 @@ abbrev pub greatest : List ℕ → ℕ
 greatest xs = fold max 0 xs
 
 -- how many of the numbers are x
-abbrev pub times : List ℕ → ℕ → ℕ
-times xs x = count_by (λ y. y == x) xs
+abbrev pub occurrences : List ℕ → ℕ → ℕ
+occurrences xs x = count_by (λ y. y == x) xs
 
 -- a line for each vertex from v on, with what is said of it
 abbrev pub vertex_lines : {A : Type 0} → (A → List ℕ) → ℕ → List A → List ℕ
 vertex_lines text v [] = []
 vertex_lines text v (x ∷ xs) = decimal v ++ codes " " ++ text x ++ codes "\n" ++ vertex_lines text (suc v) xs
 
--- a level, or a dash where there is none
-abbrev pub level_text : Option ℕ → List ℕ
-level_text None = codes "-"
-level_text (Some d) = decimal d
+-- a number, or a dash where there is none
+abbrev pub number_text : Option ℕ → List ℕ
+number_text None = codes "-"
+number_text (Some d) = decimal d
 
 -- the levels that there are
 abbrev pub found_levels : List (Option ℕ) → List ℕ
@@ -74,7 +75,7 @@ found_levels levels = filter_map (λ level. level) levels
 
 -- the levels from s in the snapshot k, a vertex a line, or how many vertices are reached, their greatest level and the sum of all levels
 unfoldable pub levels_text : ℕ → ℕ → List (Option ℕ) → Bool → List ℕ
-levels_text k s levels false = codes "bfs " ++ decimal k ++ codes " " ++ decimal s ++ codes "\n" ++ vertex_lines level_text 0 levels
+levels_text k s levels false = codes "bfs " ++ decimal k ++ codes " " ++ decimal s ++ codes "\n" ++ vertex_lines number_text 0 levels
 levels_text k s levels true =
     codes "bfs " ++ decimal k ++ codes " " ++ decimal s ++ codes " sum " ++ decimal (length (found_levels levels)) ++ codes " "
     ++ decimal (greatest (found_levels levels)) ++ codes " " ++ decimal (sum (found_levels levels)) ++ codes "\n"
@@ -85,7 +86,7 @@ count_labels labels = distinct_count nat_eq labels
 
 -- the greatest number of vertices with one label
 abbrev pub most_with_one : List ℕ → ℕ
-most_with_one labels = greatest (map (times labels) labels)
+most_with_one labels = greatest (map (occurrences labels) labels)
 
 -- the labels in the snapshot k: how many there are and each vertex a line, or how many, how often the most frequent one stands and the sum of all
 unfoldable pub labels_text : ℕ → List ℕ → Bool → List ℕ
@@ -93,6 +94,23 @@ labels_text k labels false = codes "labels " ++ decimal k ++ codes " " ++ decima
 labels_text k labels true =
     codes "labels " ++ decimal k ++ codes " sum " ++ decimal (count_labels labels) ++ codes " " ++ decimal (most_with_one labels) ++ codes " "
     ++ decimal (sum labels) ++ codes "\n"
+
+-- the four numbers of the snapshot k: vertices, edges, the greatest out-degree, and vertices without out-edges
+unfoldable pub degrees_line : ℕ → ℕ → ℕ → ℕ → ℕ → List ℕ
+degrees_line k vertices edges most sinks =
+    codes "degrees " ++ decimal k ++ codes " " ++ decimal vertices ++ codes " " ++ decimal edges ++ codes " " ++ decimal most ++ codes " "
+    ++ decimal sinks ++ codes "\n"
+
+-- the least vertex of the greatest rank, or none where there is no vertex
+abbrev pub first_greatest : List ℕ → Option ℕ
+first_greatest ranks = first_from (λ v. slice_index ranks v == greatest ranks) 0 (length ranks)
+
+-- the ranks after so many rounds in the snapshot k: a vertex a line, or their sum, the least vertex of the greatest rank and that rank
+unfoldable pub ranks_text : ℕ → ℕ → List ℕ → Bool → List ℕ
+ranks_text k rounds ranks false = codes "rank " ++ decimal k ++ codes " " ++ decimal rounds ++ codes "\n" ++ vertex_lines decimal 0 ranks
+ranks_text k rounds ranks true =
+    codes "rank " ++ decimal k ++ codes " " ++ decimal rounds ++ codes " sum " ++ decimal (sum ranks) ++ codes " "
+    ++ number_text (first_greatest ranks) ++ codes " " ++ decimal (greatest ranks) ++ codes "\n"
 
 -- the last line, for a run whose journal has that many entries
 unfoldable pub last_line : ℕ → End → List ℕ

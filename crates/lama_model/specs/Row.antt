@@ -1,6 +1,6 @@
 -- The rows of a graph: compressed sparse rows hold these lists one after another.
 use Rattle.std.specs.Prelude.{◌≡◌, ℕ, ◌==◌, suc, List, [], ◌∷◌, ◌++◌, map, filter, reverse, length, ◌<◌, All, sum_by, slice_index_or}
-use Rattle.std.specs.List.{range_with_len}
+use Rattle.std.specs.List.{flat_map, range_with_len}
 use Rattle.lama_base.specs.declared.Edge.{Edge}
 use Rattle.lama_model.specs.Graph.{Graph}
 
@@ -33,6 +33,10 @@ graph_of_rows rows = record { count = length rows; edges = edges_of_rows 0 rows 
 -- the row of v among the rows, that of vertex 0 first; past their end it is empty
 abbrev pub row_at : List (List (ℕ × ℕ)) → ℕ → List (ℕ × ℕ)
 row_at rows v = slice_index_or rows v []
+
+-- the edges that leave these vertices, as source and target
+abbrev pub edges_from : List (List (ℕ × ℕ)) → List ℕ → List (ℕ × ℕ)
+edges_from rows us = flat_map (λ u. map (λ p. (u, p.0)) (row_at rows u)) us
 
 -- each target of each row is below the count
 abbrev pub AreTargetsBelow : ℕ → List (List (ℕ × ℕ)) → Type 0

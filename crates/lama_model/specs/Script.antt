@@ -6,7 +6,7 @@ use Rattle.lama_model.specs.declared.calls.Write.TheVariants.{Vertices, Add, Rem
 use Rattle.lama_model.specs.declared.commands.Command.{Command}
 use Rattle.lama_model.specs.declared.commands.Command.TheVariants.{Write as Writes, Checkpoint as Checkpoints, Read as Reads}
 use Rattle.lama_model.specs.declared.commands.Read.{Read}
-use Rattle.lama_model.specs.declared.commands.Read.TheVariants.{Row, Edges, Bfs, Labels}
+use Rattle.lama_model.specs.declared.commands.Read.TheVariants.{Row, Edges, Degrees, Bfs, Labels, Rank}
 
 abbrev pub is_line_feed : ℕ → Bool
 is_line_feed b = b == 10
@@ -102,6 +102,10 @@ abbrev pub edges_read : List (List ℕ) → Option Read
 edges_read [] = Some Edges
 edges_read (more ∷ args) = None
 
+abbrev pub degrees_read : List (List ℕ) → Option Read
+degrees_read [] = Some Degrees
+degrees_read (more ∷ args) = None
+
 -- whether `sum` stands after a command's words, or nothing
 abbrev pub sum_of : List (List ℕ) → Option Bool
 sum_of [] = Some false
@@ -119,6 +123,18 @@ bfs_read (s ∷ args) = bfs_of (sum_of args) (number s)
 abbrev pub labels_read : List (List ℕ) → Option Read
 labels_read args = option_map (λ sum. Labels sum) (sum_of args)
 
+-- so many rounds, of which there are at most 100
+abbrev pub rank_within : Bool → ℕ → Option Read
+rank_within sum rounds = if nat_le rounds 100 then Some (Rank rounds sum) else None
+
+-- rank R, where R is a number
+abbrev pub rank_of : Option Bool → Option ℕ → Option Read
+rank_of sum rounds = option_and_then (λ sum. option_and_then (rank_within sum) rounds) sum
+
+abbrev pub rank_read : List (List ℕ) → Option Read
+rank_read [] = None
+rank_read (rounds ∷ args) = rank_of (sum_of args) (number rounds)
+
 -- what is read by a word and the words after it
 unfoldable pub read_of : List ℕ → List (List ℕ) → Option Read
 read_of word args =
@@ -126,7 +142,9 @@ read_of word args =
     else (if bytes_eq word (codes "edges") then edges_read args
     else (if bytes_eq word (codes "bfs") then bfs_read args
     else (if bytes_eq word (codes "labels") then labels_read args
-    else None)))
+    else (if bytes_eq word (codes "degrees") then degrees_read args
+    else (if bytes_eq word (codes "rank") then rank_read args
+    else None)))))
 
 -- what stands behind an at sign at the front of a word
 abbrev pub behind_at : List ℕ → Option (List ℕ)

@@ -6,16 +6,18 @@ use Rattle.lama_model.specs.Opening.{Opening}
 use Rattle.lama_model.specs.Journal.{reply, graph}
 use Rattle.lama_model.specs.Script.{Item, Script, script}
 use Rattle.lama_model.specs.Script.Item.{One}
-use Rattle.lama_model.specs.Lines.{reply_line, refusal_line, row_line, edges_lines, levels_text, labels_text, last_line}
+use Rattle.lama_model.specs.Lines.{reply_line, refusal_line, row_line, edges_lines, greatest, degrees_line, levels_text, labels_text, ranks_text, last_line}
 use Rattle.lama_model.specs.Levels.{levels}
 use Rattle.lama_model.specs.Labels.{labels}
+use Rattle.lama_model.specs.Degrees.{out_degrees, count_sinks}
+use Rattle.lama_model.specs.Ranks.{ranks}
 use Rattle.lama_model.specs.declared.calls.Call.{Call}
 use Rattle.lama_model.specs.declared.calls.Call.TheVariants.{Write as WriteCall, Checkpoint, Look, LookAt}
 use Rattle.lama_model.specs.declared.calls.Entry.{Entry}
 use Rattle.lama_model.specs.declared.commands.Command.{Command}
 use Rattle.lama_model.specs.declared.commands.Command.TheVariants.{Write as Writes, Checkpoint as Checkpoints, Read as Reads}
 use Rattle.lama_model.specs.declared.commands.Read.{Read}
-use Rattle.lama_model.specs.declared.commands.Read.TheVariants.{Row, Edges, Bfs, Labels}
+use Rattle.lama_model.specs.declared.commands.Read.TheVariants.{Row, Edges, Degrees, Bfs, Labels, Rank}
 use Rattle.lama_model.specs.declared.answers.Reply.{Reply}
 use Rattle.lama_model.specs.declared.answers.Reply.TheVariants.{Accepted, Count, Snapshot, Kept, Refused}
 use Rattle.lama_model.specs.declared.answers.Refusal.TheVariants.{UnknownVertex}
@@ -44,6 +46,8 @@ read_lines g k (Row v) = if nat_lt v g.count then row_line k v (row g v) else re
 read_lines g k Edges = edges_lines k (rows_of g)
 read_lines g k (Bfs s sum) = if nat_lt s g.count then levels_text k s (levels g s) sum else refusal_line (UnknownVertex s g.count)
 read_lines g k (Labels sum) = labels_text k (labels g) sum
+read_lines g k Degrees = degrees_line k g.count (length g.edges) (greatest (out_degrees g)) (count_sinks g)
+read_lines g k (Rank rounds sum) = ranks_text k rounds (ranks g rounds) sum
 
 -- what a reading command prints for the reply to its call, after the journal that ends with that call
 abbrev pub reading_lines : Opening → List Entry → Command → Read → Reply → List ℕ

@@ -9,10 +9,14 @@ pub enum Read {
     Row { v: u32 },
     /// All edges.
     Edges,
+    /// How many edges leave vertices.
+    Degrees,
     /// How far each vertex is from the vertex `s`, or, where `sum` is true, how far they are in all.
     Bfs { s: u32, sum: bool },
     /// The weak component of each vertex, or, where `sum` is true, how many and how large they are.
     Labels { sum: bool },
+    /// The PageRank of each vertex after so many rounds, or, where `sum` is true, all of it and where it is greatest.
+    Rank { rounds: u32, sum: bool },
 }
 
 /// One command of a script.

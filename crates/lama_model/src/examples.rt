@@ -33,7 +33,8 @@ pub fn texts()
         codes "vertices 1\nunknown vertex 5 of 1\nunknown vertex 2 of 1\nunknown vertex 9 of 0\nfull vertices\nend 5\n" }
 {}
 
-/// What is read of a whole graph: levels and labels, each vertex a line or summed up.
+/// What is read of a whole graph: levels, labels and ranks, each vertex a line or summed up, and how many edges leave
+/// vertices.
 pub fn analyses()
     ensures path { text empty_opening (codes "vertices 5\nadd 0 1\nadd 1 2\nadd 2 3\ncheckpoint\nbfs 0\nbfs 0 sum\nlabels\nlabels sum\n")
         ≡ codes "vertices 5\nsnapshot 1\nbfs 1 0\n0 0\n1 1\n2 2\n3 3\n4 -\nbfs 1 0 sum 4 3 6\nlabels 1 2\n0 0\n1 0\n2 0\n3 0\n4 4\nlabels 1 sum 2 4 4\nend 9\n" }
@@ -43,6 +44,14 @@ pub fn analyses()
     // Of two walks the shorter one counts, and an edge that was deleted is in the older snapshot alone.
     ensures shorter { text empty_opening (codes "vertices 4\nadd 0 1\nadd 1 2\nadd 2 3\nadd 0 3\ncheckpoint\ndel 0 3\ncheckpoint\n@1 bfs 0 sum\nbfs 0 sum\nbfs 4\n")
         ≡ codes "vertices 4\nsnapshot 1\nsnapshot 2\nbfs 1 0 sum 4 2 4\nbfs 2 0 sum 4 3 6\nunknown vertex 4 of 4\nend 11\n" }
+    ensures ranks { text empty_opening (codes "vertices 3\nadd 0 1\nadd 0 2\nadd 1 2\ncheckpoint\nrank 1\nrank 2 sum\nrank 0 sum\n")
+        ≡ codes "vertices 3\nsnapshot 1\nrank 1 1\n0 150000\n1 575000\n2 1425000\nrank 1 2 sum 1066250 2 702500\nrank 1 0 sum 3000000 0 1000000\nend 8\n" }
+    // Each of three edges hands on a third, rounded down.
+    ensures thirds { text empty_opening (codes "vertices 2\nadd 0 1\nadd 0 1\nadd 0 1\ncheckpoint\nrank 1\n")
+        ≡ codes "vertices 2\nsnapshot 1\nrank 1 1\n0 150000\n1 999999\nend 6\n" }
+    // The greatest out-degree, and the vertices without out-edges. Without vertices no rank is the greatest.
+    ensures degrees { text empty_opening (codes "vertices 5\nadd 0 1\nadd 1 2\nadd 2 3\nadd 2 2\ncheckpoint\ndegrees\n@0 degrees\n@0 rank 0 sum\n@0 rank 3\nrank 101\n")
+        ≡ codes "vertices 5\nsnapshot 1\ndegrees 1 5 4 2 2\ndegrees 0 0 0 0 0\nrank 0 0 sum 0 - 0\nrank 0 3\nbad line 11\n" }
 {}
 
 /// Three snapshots of two vertices: graphs, numbers, floors and prefixes of their journal.

@@ -1,10 +1,12 @@
 //! Laws of the definitions alone, for every opening and every journal.
 
-ghost use Rattle.std.specs.Prelude.{◌≡◌, ◌+◌, ◌<◌, ◌≤◌, ◌++◌, [], ◌∷◌, ℕ, List};
+ghost use Rattle.std.specs.Prelude.{◌≡◌, ◌+◌, ◌*◌, ◌<◌, ◌≤◌, ◌++◌, [], ◌∷◌, ℕ, List, length, sum};
 ghost use Rattle.lama_model.specs.Graph.{Graph, IsGraph};
 ghost use Rattle.lama_model.specs.Row.{row, AreSame};
 ghost use Rattle.lama_model.specs.Levels.{AreLevels, levels};
 ghost use Rattle.lama_model.specs.Labels.{AreLabels, AreFirst, labels};
+ghost use Rattle.lama_model.specs.Degrees.{out_degrees};
+ghost use Rattle.lama_model.specs.Ranks.{ranks};
 ghost use Rattle.lama_model.specs.Change.{change_between, graph_after, row_after};
 ghost use Rattle.lama_model.specs.Opening.{Opening, last_number};
 ghost use Rattle.lama_model.specs.Journal.{begun, standing, newest, oldest, floor_at, graph, change, cut};
@@ -65,4 +67,17 @@ pub fn labels_are_least_vertices()
 /// Graphs with the same rows have the same labels.
 pub fn labels_are_of_rows()
     ensures { (g h : Graph) → IsGraph h → AreSame g h → labels g ≡ labels h }
+{}
+
+/// However many rounds there are, all ranks add up to no more than at first. So no sum on the way leaves 64 bits: of
+/// 4,194,304 vertices they come to fewer than 2 ^ 42.
+pub fn ranks_never_grow()
+    ensures { (g : Graph) (i : ℕ) → IsGraph g → sum (ranks g i) ≤ g.count * 1000000 }
+{}
+
+/// Graphs with the same rows have the same ranks and as many edges, and the same numbers of them leave each vertex.
+pub fn ranks_are_of_rows()
+    ensures ranks { (g h : Graph) (i : ℕ) → IsGraph g → IsGraph h → AreSame g h → ranks g i ≡ ranks h i }
+    ensures degrees { (g h : Graph) → AreSame g h → out_degrees g ≡ out_degrees h }
+    ensures edges { (g h : Graph) → IsGraph g → IsGraph h → AreSame g h → length g.edges ≡ length h.edges }
 {}

@@ -1,7 +1,7 @@
 -- Texts that are appended piece by piece.
 use Rattle.std.proofs.Common.{◌≡◌, sym, ap, ◌∙◌, ℕ, List, ◌++◌, length, sum, true, false, Option, Result, Ok, Err, OnOk, append_assoc, codes, decimal}
 use Rattle.lama_model.specs.Row.{edges_in}
-use Rattle.lama_model.specs.Lines.{refusal_line, edges_lines, edge_lines, levels_text, labels_text, vertex_lines, found_levels, greatest, count_labels, most_with_one}
+use Rattle.lama_model.specs.Lines.{refusal_line, edges_lines, edge_lines, levels_text, labels_text, vertex_lines, number_text, found_levels, greatest, first_greatest, count_labels, most_with_one, degrees_line, ranks_text}
 use Rattle.lama_model.specs.declared.answers.Refusal.TheVariants.{UnknownVertex, NoSnapshot}
 
 -- a piece after what was appended before
@@ -59,3 +59,19 @@ pub label_sum-pieces : (k : ℕ) (labels : List ℕ) → labels_text k labels tr
     (codes "labels " ++ decimal k) ++ totals_text (count_labels labels) (most_with_one labels) (sum labels)
 unfolding labels_text
 label_sum-pieces k labels = behind_one (codes "labels ") (decimal k) (codes " sum ") (decimal (count_labels labels)) (codes " ") (decimal (most_with_one labels)) (decimal (sum labels)) (codes "\n")
+
+in_fives : (a b c d e f g h i j k : List ℕ) → a ++ b ++ c ++ d ++ e ++ f ++ g ++ h ++ i ++ j ++ k ≡ ((((a ++ b) ++ (c ++ d)) ++ (e ++ f)) ++ (g ++ h)) ++ (i ++ j ++ k)
+in_fives a b c d e f g h i j k = simp append_assoc
+
+pub degrees-pieces : (k n m x z : ℕ) → degrees_line k n m x z
+    ≡ ((((codes "degrees " ++ decimal k) ++ (codes " " ++ decimal n)) ++ (codes " " ++ decimal m)) ++ (codes " " ++ decimal x)) ++ (codes " " ++ decimal z ++ codes "\n")
+unfolding degrees_line
+degrees-pieces k n m x z = in_fives (codes "degrees ") (decimal k) (codes " ") (decimal n) (codes " ") (decimal m) (codes " ") (decimal x) (codes " ") (decimal z) (codes "\n")
+
+in_fours : (a b c d e f g h i j k : List ℕ) → a ++ b ++ c ++ d ++ e ++ f ++ g ++ h ++ i ++ j ++ k ≡ (((a ++ b) ++ (c ++ d)) ++ (e ++ f)) ++ (g ++ h ++ i ++ j ++ k)
+in_fours a b c d e f g h i j k = simp append_assoc
+
+pub rank_sum-pieces : (k rounds : ℕ) (ranks : List ℕ) → ranks_text k rounds ranks true
+    ≡ (((codes "rank " ++ decimal k) ++ (codes " " ++ decimal rounds)) ++ (codes " sum " ++ decimal (sum ranks))) ++ (codes " " ++ number_text (first_greatest ranks) ++ codes " " ++ decimal (greatest ranks) ++ codes "\n")
+unfolding ranks_text
+rank_sum-pieces k rounds ranks = in_fours (codes "rank ") (decimal k) (codes " ") (decimal rounds) (codes " sum ") (decimal (sum ranks)) (codes " ") (number_text (first_greatest ranks)) (codes " ") (decimal (greatest ranks)) (codes "\n")

@@ -7,6 +7,7 @@ use Rattle.std.proofs.lemmas.Bool.Decides.{nat_tests}
 use Rattle.std.proofs.lemmas.List.Elements.{All-head, All-tail}
 use Rattle.std.proofs.lemmas.Map.Made.{length-from_keys}
 use Rattle.std.proofs.lemmas.Cmp.{nat_eq_equiv}
+use Rattle.lama_model.proofs.LevelLaw.{or-right, both-true}
 use Rattle.lama_model.specs.Labels.{AreFirst}
 use Rattle.lama_model.specs.Lines.{count_labels}
 use Rattle.lama_script.specs.Totals.{own_from}
@@ -74,10 +75,6 @@ owned-stands q v (l ∷ ls) h = by (l == v) refl h (λ h. stands-later q v l ls 
     by true e h later = first (let at : l ≡ v = grind (arith, nat_tests, e) in at) (nat_eq q l) refl h later
     by false e h later = later h
 
-or-right : (a b : Bool) → b ≡ true → a || b ≡ true
-or-right true b e = refl
-or-right false b e = e
-
 owned-has : (v i : ℕ) (ls : List ℕ) → i < length ls → get_or ls i 0 ≡ v + i → list_any (nat_eq (v + i)) (owned v ls) ≡ true
 owned-has v i [] lt is = absurd (omega (arith, lt))
 owned-has v zero (l ∷ ls) lt is =
@@ -106,11 +103,6 @@ has : (q i : ℕ) (ls : List ℕ) → i < length ls → get_or ls i 0 ≡ q → 
 has q i [] lt is = absurd (omega (arith, lt))
 has q zero (l ∷ ls) lt is = let self : nat_eq q l ≡ true = grind (arith, nat_tests, is) in ap (λ b. b || list_any (nat_eq q) ls) self
 has q (suc i) (l ∷ ls) lt is = or-right (nat_eq q l) (list_any (nat_eq q) ls) (has q i ls (omega (arith, lt)) is)
-
-both-true : (a b : Bool) → (a ≡ true → b ≡ true) → (b ≡ true → a ≡ true) → a ≡ b
-both-true true b f h = sym (f refl)
-both-true false true f h = h refl
-both-true false false f h = refl
 
 -- the different labels are those that are their own
 pub own-count : (ls : List ℕ) → AreFirst ls → own_from 0 ls ≡ count_labels ls

@@ -1,7 +1,7 @@
 //! Printers of what is read of a whole graph: levels and labels.
 
-ghost use Rattle.std.specs.Prelude.{◌≡◌, ◌≤◌, ◌<◌, ◌++◌, ℕ, All, fold, max, map, sum, length, codes, decimal, slice_index, take, true, false, vec_len, IfOk, OnOk, OnErr};
-ghost use Rattle.lama_model.specs.Lines.{level_text, vertex_lines, levels_text, labels_text, found_levels, greatest, times, count_labels, most_with_one};
+ghost use Rattle.std.specs.Prelude.{◌≡◌, ◌≤◌, ◌<◌, ◌++◌, ℕ, All, max, map, sum, length, codes, decimal, slice_index, take, true, false, vec_len, IfOk, OnOk, OnErr};
+ghost use Rattle.lama_model.specs.Lines.{number_text, vertex_lines, levels_text, labels_text, found_levels, greatest, occurrences, count_labels, most_with_one};
 ghost use Rattle.lama_model.specs.Labels.{AreFirst};
 ghost use Rattle.lama_script.specs.Totals.{AreTotals};
 
@@ -80,7 +80,7 @@ fn append_levels(
 
 /// A line for each vertex, with its level.
 fn append_level_lines(out: &mut Vec<u8>, levels: &[Option<u32>]) -> Result<(), AllocError>
-    ensures ok { OnOk result (out.new.items ≡ out.old.items ++ vertex_lines level_text 0 levels.now) }
+    ensures ok { OnOk result (out.new.items ≡ out.old.items ++ vertex_lines number_text 0 levels.now) }
     ensures begins { take (vec_len out.old) out.new.items ≡ out.old.items }
 {
     for v in 0..levels.len() {
@@ -90,7 +90,7 @@ fn append_level_lines(out: &mut Vec<u8>, levels: &[Option<u32>]) -> Result<(), A
 }
 
 fn append_level(out: &mut Vec<u8>, v: u64, level: Option<u32>) -> Result<(), AllocError>
-    ensures ok { OnOk result (out.new.items ≡ out.old.items ++ (decimal v ++ codes " " ++ level_text level ++ codes "\n")) }
+    ensures ok { OnOk result (out.new.items ≡ out.old.items ++ (decimal v ++ codes " " ++ number_text level ++ codes "\n")) }
     ensures begins { take (vec_len out.old) out.new.items ≡ out.old.items }
 {
     append_number(out, b"", v)?;
@@ -250,7 +250,7 @@ fn count_each(labels: &[u32], counts: &mut [u32])
     requires below { All (λ l. l < length counts.old) labels.now }
     requires zero { (v : ℕ) → v < length counts.old → slice_index counts.old v ≡ 0 }
     ensures len { length counts.new ≡ length counts.old }
-    ensures each { (v : ℕ) → v < length counts.new → slice_index counts.new v ≡ times labels.now v }
+    ensures each { (v : ℕ) → v < length counts.new → slice_index counts.new v ≡ occurrences labels.now v }
 {
     for &label in labels {
         counts[label as usize] += 1;

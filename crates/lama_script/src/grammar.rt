@@ -1,14 +1,14 @@
 //! The grammar of a script's lines: words, numbers and commands.
 
-ghost use Rattle.std.specs.Prelude.{◌≡◌, ◌<◌, ◌^◌, [], ◌∷◌, ⊤, not, true, length, MatchOption, None, Some, IsTrue, ◌↔◌};
+ghost use Rattle.std.specs.Prelude.{◌≡◌, ◌<◌, ◌^◌, [], ◌∷◌, ⊤, not, true, MatchOption, None, Some, IsTrue, ◌↔◌};
 ghost use Rattle.std.specs.List.{position};
-ghost use Rattle.lama_model.specs.Script.{words, number, vertices_command, add_command, del_command, weigh_command, checkpoint_command, row_read, edges_read, sum_of, bfs_read, labels_read, read_of, behind_at, reading_of, command_of, meaning, without_return};
+ghost use Rattle.lama_model.specs.Script.{words, number, vertices_command, add_command, del_command, weigh_command, checkpoint_command, row_read, edges_read, degrees_read, sum_of, bfs_read, labels_read, rank_read, read_of, behind_at, reading_of, command_of, meaning, without_return};
 ghost use Rattle.lama_model.specs.Script as grammar;
 ghost use Rattle.lama_script.specs.Numbers.{IsFirstNumber, IsLeading};
 ghost use Rattle.lama_script.specs.Parsing.{answer_to};
 
 use crate::item::{Item, ScriptFault};
-use lama_base::limits::MAX_LINE_BYTES;
+use lama_base::limits::{MAX_LINE_BYTES, MAX_ROUNDS};
 use lama_model::{Command, Read, Write};
 
 /// What a line is answered that is given without its line feed and has that number.
@@ -213,6 +213,10 @@ fn read(word: &[u8], args: &[u8]) -> Option<Read>
         bfs(args)
     } else if word == b"labels".as_slice() {
         labels(args)
+    } else if word == b"degrees".as_slice() {
+        degrees(args)
+    } else if word == b"rank".as_slice() {
+        rank(args)
     } else {
         None
     }
@@ -316,4 +320,19 @@ fn labels(args: &[u8]) -> Option<Read>
 {
     let sum = sum(args)?;
     Some(Read::Labels { sum })
+}
+
+fn degrees(args: &[u8]) -> Option<Read>
+    ensures { result ≡ degrees_read (words args.now) }
+{
+    is_end(args).then_some(Read::Degrees)
+}
+
+fn rank(args: &[u8]) -> Option<Read>
+    ensures { result ≡ rank_read (words args.now) }
+{
+    let (rounds, args) = first_number(args)?;
+    let sum = sum(args)?;
+    let rounds = rounds?;
+    (rounds <= MAX_ROUNDS).then_some(Read::Rank { rounds, sum })
 }

@@ -6,6 +6,7 @@ mod grammar;
 pub mod item;
 pub mod parser;
 pub mod printers;
+mod ranks;
 #[cfg(test)]
 mod tests;
 
@@ -15,3 +16,4 @@ pub use item::{Item, ScriptFault};
 pub use lama_model::{Command, Read};
 pub use parser::Parser;
 pub use printers::{print_edges, print_numbered, print_reply, print_row};
+pub use ranks::{print_degrees, print_rank};

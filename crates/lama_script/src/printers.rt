@@ -1,6 +1,6 @@
 //! Printers: each appends the lines of one answer to the output.
 
-ghost use Rattle.std.specs.Prelude.{◌≡◌, ◌<◌, ◌++◌, ℕ, List, take, length, codes, decimal, vec_len, OnOk, OnErr};
+ghost use Rattle.std.specs.Prelude.{◌≡◌, ◌<◌, ◌++◌, take, length, codes, decimal, vec_len, OnOk, OnErr};
 ghost use Rattle.std.specs.List.{flat_map};
 ghost use Rattle.lama_model.specs.Lines.{reply_line, refusal_line, row_line, pair_text, edges_lines, edge_lines, edge_line};
 ghost use Rattle.lama_model.specs.Row.{row_at, edges_in};

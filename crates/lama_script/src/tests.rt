@@ -1,12 +1,14 @@
 //! Lines and what they are answered, and answers and what is printed, all worked out by hand.
 
-ghost use Rattle.std.specs.Prelude.{◌≤◌, List, [], ◌∷◌, drop};
+ghost use Rattle.std.specs.Prelude.{◌≤◌, [], ◌∷◌, drop};
 
 use crate::analyses::{print_labels, print_levels};
 use crate::item::{Item, ScriptFault};
 use crate::parser::Parser;
 use crate::printers::{print_edges, print_reply, print_row};
+use crate::ranks::{print_degrees, print_rank};
 use lama_model::{Command, Read, Refusal, Reply, Rows, Write};
+use lama_rank::Totals;
 use std::alloc::AllocError;
 
 type Answer = Result<Option<Item>, ScriptFault>;
@@ -90,6 +92,43 @@ fn levels_and_labels_are_asked_for_whole_or_summed_up(rt: HostRuntime) {
     assert_eq!(rt; answer(b"labels 0"), BAD);
     assert_eq!(rt; answer(b"labels sum 0"), BAD);
     assert_eq!(rt; answer(b"label"), BAD);
+}
+
+fn rank(at: Option<u32>, rounds: u32, sum: bool) -> Answer {
+    says(Command::Read {
+        at,
+        what: Read::Rank { rounds, sum },
+    })
+}
+
+fn degrees(at: Option<u32>) -> Answer {
+    says(Command::Read {
+        at,
+        what: Read::Degrees,
+    })
+}
+
+#[test]
+fn ranks_are_asked_for_after_at_most_a_hundred_rounds(rt: HostRuntime) {
+    assert_eq!(rt; answer(b"rank 0"), rank(None, 0, false));
+    assert_eq!(rt; answer(b"rank 100"), rank(None, 100, false));
+    assert_eq!(rt; answer(b"\trank 0020 sum "), rank(None, 20, true));
+    assert_eq!(rt; answer(b"@7 rank 3"), rank(Some(7), 3, false));
+    assert_eq!(rt; answer(b"@7 rank 3 sum"), rank(Some(7), 3, true));
+    assert_eq!(rt; answer(b"rank 101"), BAD);
+    assert_eq!(rt; answer(b"rank 101 sum"), BAD);
+    assert_eq!(rt; answer(b"rank 4294967296"), BAD);
+    assert_eq!(rt; answer(b"rank"), BAD);
+    assert_eq!(rt; answer(b"rank sum"), BAD);
+    assert_eq!(rt; answer(b"rank 3 sums"), BAD);
+    assert_eq!(rt; answer(b"rank 3 4"), BAD);
+    assert_eq!(rt; answer(b"rank 3 sum 4"), BAD);
+    assert_eq!(rt; answer(b"ranks 3"), BAD);
+    assert_eq!(rt; answer(b"degrees"), degrees(None));
+    assert_eq!(rt; answer(b"@2  degrees"), degrees(Some(2)));
+    assert_eq!(rt; answer(b"degrees sum"), BAD);
+    assert_eq!(rt; answer(b"degrees 0"), BAD);
+    assert_eq!(rt; answer(b"degree"), BAD);
 }
 
 #[test]
@@ -331,5 +370,36 @@ fn labels_print_a_line_for_each_vertex_or_their_sum(rt: HostRuntime) -> Result<(
     print_labels(rt.alloc(), &mut out, 9, &COMPONENTS, true)?;
     let text = b"labels 9 3\n0 0\n1 1\n2 2\n3 0\n4 2\n5 2\nlabels 9 sum 3 3 7\n";
     assert_eq!(rt; out.as_slice(), text.as_slice());
+    Ok(())
+}
+
+// Of equal ranks the first vertex is named. The sum of the last ones has 65 bits.
+#[test]
+fn ranks_print_a_line_for_each_vertex_or_their_sum(rt: HostRuntime) -> Result<(), AllocError> {
+    let mut out = Vec::new(rt.alloc());
+    let ranks = [150_000, 702_500, 702_500];
+    print_rank(&mut out, 4, 2, &ranks, false)?;
+    print_rank(&mut out, 4, 2, &ranks, true)?;
+    print_rank(&mut out, 0, 100, &[], true)?;
+    print_rank(&mut out, 0, 0, &[], false)?;
+    let greatest = [1, 18_446_744_073_709_551_615];
+    print_rank(&mut out, 9, 1, &greatest, true)?;
+    let text =
+        b"rank 4 2\n0 150000\n1 702500\n2 702500\nrank 4 2 sum 1555000 1 702500\nrank 0 100 sum 0 - 0\nrank 0 0\nrank 9 1 sum 18446744073709551616 1 18446744073709551615\n";
+    assert_eq!(rt; out.as_slice(), text.as_slice());
+    Ok(())
+}
+
+#[test]
+fn degrees_print_their_four_totals(rt: HostRuntime) -> Result<(), AllocError> {
+    let mut out = Vec::new(rt.alloc());
+    let totals = Totals {
+        vertices: 5,
+        edges: 3,
+        greatest: 1,
+        sinks: 2,
+    };
+    print_degrees(&mut out, 1, &totals)?;
+    assert_eq!(rt; out.as_slice(), b"degrees 1 5 3 1 2\n".as_slice());
     Ok(())
 }

@@ -81,7 +81,7 @@ unfolding read_lines
 edges-read g rows k of = ap (edges_lines k) (all-rows g rows of)
 
 -- the targets alone decide which edges lead
-firsts : (row : List (ℕ × ℕ)) → map (λ p. p.0) (targets_of row) ≡ map (λ p. p.0) row
+pub firsts : (row : List (ℕ × ℕ)) → map (λ p. p.0) (targets_of row) ≡ map (λ p. p.0) row
 firsts [] = refl
 firsts (p ∷ row) = ap (λ l. p.0 ∷ l) (firsts row)
 

@@ -7,7 +7,7 @@ ghost use Rattle.lama_model.specs.Text.{read_lines};
 ghost use Rattle.lama_model.specs.Lines.{refusal_line};
 ghost use Rattle.lama_model.specs.declared.answers.Refusal.TheVariants.{UnknownVertex};
 ghost use Rattle.llama_main.specs.Words.{IsTeam};
-ghost use Rattle.lama_model.specs.declared.commands.Read.TheVariants.{Row, Edges, Bfs, Labels};
+ghost use Rattle.lama_model.specs.declared.commands.Read.TheVariants.{Row, Edges, Degrees, Bfs, Labels, Rank};
 ghost use Rattle.llama_main.specs.Store.{held_by, AreOfGraph};
 ghost use Rattle.llama_main.specs.Expected.{held_after, printed, expected_from};
 ghost use Rattle.llama_main.specs.Stop.{StopsAt, IsOfScript};
@@ -22,9 +22,10 @@ use lama_book::Looked;
 use lama_label::labels;
 use lama_model::{Refusal, Reply, Rows};
 use lama_pages::Steps;
+use lama_rank::{degrees, rank};
 use lama_script::{
-    Command, Item, Parser, Read, ScriptFault, print_edges, print_labels, print_levels, print_reply,
-    print_row,
+    Command, Item, Parser, Read, ScriptFault, print_degrees, print_edges, print_labels,
+    print_levels, print_rank, print_reply, print_row,
 };
 use lama_snapshot::{Snapshot, Targets};
 use std::alloc::{AllocError, Global};
@@ -176,6 +177,8 @@ impl Interpreter {
             Read::Edges => self.read_edges(snapshot),
             Read::Bfs { s, sum } => self.read_levels(team, command, snapshot, s, sum),
             Read::Labels { sum } => self.read_labels(team, snapshot, sum),
+            Read::Degrees => self.read_degrees(team, snapshot),
+            Read::Rank { rounds, sum } => self.read_ranks(team, snapshot, rounds, sum),
         }
     }
 
@@ -265,5 +268,48 @@ impl Interpreter {
         let targets = Targets::new(snapshot);
         let found = labels(team.rt, team.alloc, &targets, team.workers, team.gate)?;
         print_labels(team.alloc, &mut self.out, snapshot.number(), &found, sum)
+    }
+
+    /// Reads how many edges leave vertices.
+    fn read_degrees<R: Threads + Sync, G: Gate + Sync>(
+        &mut self,
+        team: &Team<R, G>,
+        snapshot: &Snapshot,
+    ) -> Result<(), AllocError>
+        requires rows { AreOfGraph snapshot.now.rows (graph_of empty_opening self.old.store.standing snapshot.now.number) }
+        ensures parser { self.new.parser ≡ self.old.parser }
+        ensures store { self.new.store ≡ self.old.store }
+        ensures printed { OnOk result (self.new.out.items ≡ self.old.out.items ++ read_lines (graph_of empty_opening self.old.store.standing snapshot.now.number) snapshot.now.number Degrees) }
+        ensures err { OnErr result (self.new.out.items ≡ self.old.out.items) }
+    {
+        let totals = degrees(team.rt, snapshot);
+        print_degrees(&mut self.out, snapshot.number(), &totals)
+    }
+
+    /// Reads the ranks after so many rounds.
+    fn read_ranks<R: Threads + Sync, G: Gate + Sync>(
+        &mut self,
+        team: &Team<R, G>,
+        snapshot: &Snapshot,
+        rounds: u32,
+        sum: bool,
+    ) -> Result<(), AllocError>
+        requires team { IsTeam team.now.workers }
+        requires rows { AreOfGraph snapshot.now.rows (graph_of empty_opening self.old.store.standing snapshot.now.number) }
+        ensures parser { self.new.parser ≡ self.old.parser }
+        ensures store { self.new.store ≡ self.old.store }
+        ensures printed { OnOk result (self.new.out.items ≡ self.old.out.items ++ read_lines (graph_of empty_opening self.old.store.standing snapshot.now.number) snapshot.now.number (Rank rounds sum)) }
+        ensures err { OnErr result (self.new.out.items ≡ self.old.out.items) }
+    {
+        let targets = Targets::new(snapshot);
+        let found = rank(
+            team.rt,
+            team.alloc,
+            &targets,
+            rounds,
+            team.workers,
+            team.gate,
+        )?;
+        print_rank(&mut self.out, snapshot.number(), rounds, &found, sum)
     }
 }

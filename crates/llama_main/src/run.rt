@@ -1,6 +1,6 @@
 //! A run of a script, from its bytes to the printed bytes.
 
-ghost use Rattle.std.specs.Prelude.{◌≡◌, ◌<◌, ◌≤◌, ◌^◌, ◌⊎◌, [], ◌++◌, ℕ, List, OnOk, OnErr, Err, None, IsSome, MatchOption, length, decimal, codes};
+ghost use Rattle.std.specs.Prelude.{◌≡◌, ◌<◌, ◌≤◌, ◌^◌, ◌⊎◌, [], ◌++◌, ℕ, List, OnOk, OnErr, Err, None, IsSome, MatchOption, length};
 ghost use Rattle.lama_base.specs.Faults.{Rose};
 ghost use Rattle.lama_model.specs.Lines.{usage_line};
 ghost use Rattle.llama_main.specs.Streams.{IsFront, Appends};

@@ -1,7 +1,5 @@
 //! Who does the work of a reading command.
 
-ghost use Rattle.std.specs.Prelude.{◌≤◌};
-
 use std::alloc::Global;
 
 /// So many workers, which are threads of the runtime, and the gate that each piece of their work reaches.

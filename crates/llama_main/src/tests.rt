@@ -352,3 +352,40 @@ fn pieces_of_levels_meet_at_the_gate(rt: HostRuntime) -> Result<(), Fail> {
     );
     Ok(())
 }
+
+#[test]
+fn ranks_and_totals_are_the_same_for_every_number_of_workers(rt: HostRuntime) -> Result<(), Fail> {
+    let done: [(&[u8], &[u8]); 6] = [
+        (
+            b"vertices 3\nadd 0 1\nadd 0 2\nadd 1 2\ncheckpoint\nrank 1\nrank 2 sum\nrank 0 sum\n",
+            b"vertices 3\nsnapshot 1\nrank 1 1\n0 150000\n1 575000\n2 1425000\nrank 1 2 sum 1066250 2 702500\nrank 1 0 sum 3000000 0 1000000\nend 8\n",
+        ),
+        (
+            b"vertices 2\nadd 0 1\nadd 0 1\nadd 0 1\ncheckpoint\nrank 1\n",
+            b"vertices 2\nsnapshot 1\nrank 1 1\n0 150000\n1 999999\nend 6\n",
+        ),
+        (
+            b"vertices 5\nadd 0 1\nadd 1 2\nadd 2 3\ncheckpoint\nbfs 0\nbfs 0 sum\nlabels\nlabels sum\ndegrees\n",
+            b"vertices 5\nsnapshot 1\nbfs 1 0\n0 0\n1 1\n2 2\n3 3\n4 -\nbfs 1 0 sum 4 3 6\nlabels 1 2\n0 0\n1 0\n2 0\n3 0\n4 4\nlabels 1 sum 2 4 4\ndegrees 1 5 3 1 2\nend 10\n",
+        ),
+        (
+            b"vertices 4194304\nvertices 1\ncheckpoint\ndegrees\n",
+            b"vertices 4194304\nfull vertices\nsnapshot 1\ndegrees 1 4194304 0 0 4194304\nend 4\n",
+        ),
+        // An edge that was deleted hands on nothing, and a weight counts for nothing. Of the ranks 150000, 1000000 and
+        // 1000000 the first is named. In the older snapshot 0 hands on its rank in two halves.
+        (
+            b"vertices 3\nadd 0 1\nadd 0 2 9\nadd 1 1\ncheckpoint\ndel 0 1\nweigh 0 2 4\ncheckpoint\nrank 1\nrank 1 sum\n@1 rank 1\ndegrees\n@1 degrees\n",
+            b"vertices 3\nsnapshot 1\nsnapshot 2\nrank 2 1\n0 150000\n1 1000000\n2 1000000\nrank 2 1 sum 2150000 1 1000000\nrank 1 1\n0 150000\n1 1425000\n2 575000\ndegrees 2 3 2 1 1\ndegrees 1 3 3 2 1\nend 13\n",
+        ),
+        // Without vertices nothing is ranked.
+        (
+            b"rank 0 sum\nrank 3\ndegrees\n@1 degrees\nrank 100 sum\n",
+            b"rank 0 0 sum 0 - 0\nrank 0 3\ndegrees 0 0 0 0 0\nno snapshot 1 of 0 0\nrank 0 100 sum 0 - 0\nend 5\n",
+        ),
+    ];
+    for (script, text) in done {
+        gives_with_workers(&rt, script, text)?;
+    }
+    Ok(())
+}

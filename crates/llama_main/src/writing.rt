@@ -1,6 +1,6 @@
 //! Writes what was gathered.
 
-ghost use Rattle.std.specs.Prelude.{◌≡◌, ◌<◌, ◌≤◌, ◌^◌, [], List, ℕ, ◌++◌, ◌⊎◌, IfOk, IfErr, OnOk, OnErr, Err, length, take};
+ghost use Rattle.std.specs.Prelude.{◌≡◌, ◌<◌, ◌≤◌, ◌^◌, [], List, ℕ, ◌⊎◌, OnOk, OnErr, Err, take};
 ghost use Rattle.lama_base.specs.Faults.{Rose};
 ghost use Rattle.llama_main.specs.Streams.{IsFront, Appends};
 

@@ -8,7 +8,7 @@ overflow_add-level g c =
     let rows = g.R.Rows.rows c.args.rows.now in
     let l = c.loop-alloc in
     let some : 0 < length l.search.next.items = grind (arith, nat_tests, c.is_empty.ensures, c.loop-alloc-test.true, l.search.next.ok.0) in
-    let below = level-below rows c.args.source l.level l.search.levels.items l.search.next.items l.invariant some in
+    let below = level-below rows c.args.source l.level l.search.levels.items l.search.next.items l.invariant.round some in
     omega (arith, below, c.requires.vertices)
 
 pub loop-alloc-smaller : goal.loop-alloc-smaller
@@ -16,17 +16,20 @@ loop-alloc-smaller g c =
     let rows = g.R.Rows.rows c.args.rows.now in
     let l = c.loop-alloc in
     let some : 0 < length l.search.next.items = grind (arith, nat_tests, c.is_empty.ensures, c.loop-alloc-test.true, l.search.next.ok.0) in
-    let below = level-below rows c.args.source l.level l.search.levels.items l.search.next.items l.invariant some in
+    let below = level-below rows c.args.source l.level l.search.levels.items l.search.next.items l.invariant.round some in
     omega (arith, below)
 
 pub loop-alloc-preserved : goal.loop-alloc-preserved
 loop-alloc-preserved g c =
     let l = c.loop-alloc in
-    next-round (g.R.Rows.rows c.args.rows.now) c.args.source l.level l.search.levels.items l.search.next.items l.invariant c.next_level.new.self.levels.items c.next_level.new.self.next.items c.in_ok-next_level.ensures
+    record {
+      flat = c.in_ok-flat.ensures;
+      round = next-round (g.R.Rows.rows c.args.rows.now) c.args.source l.level l.search.levels.items l.search.next.items l.invariant.round c.next_level.new.self.levels.items c.next_level.new.self.next.items c.in_ok-next_level.ensures;
+    }
 
 pub returns : goal.returns
 returns g c =
     let rows = g.R.Rows.rows c.args.rows.now in
     let l = c.loop-alloc in
     let none : length l.search.next.items ≡ 0 = grind (arith, nat_tests, c.is_empty.ensures, c.loop-alloc-test.false, l.search.next.ok.0) in
-    last-round rows c.args.source l.level l.search.levels.items (subst (λ (front : List ℕ). Round rows c.args.source l.level l.search.levels.items front) (empty-is l.search.next.items none) l.invariant)
+    last-round rows c.args.source l.level l.search.levels.items (subst (λ (front : List ℕ). Round rows c.args.source l.level l.search.levels.items front) (empty-is l.search.next.items none) l.invariant.round)

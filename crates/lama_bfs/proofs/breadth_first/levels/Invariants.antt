@@ -1,9 +1,14 @@
 use Rattle.std.proofs.Common.{length, ◌-◌}
+use Rattle.std.specs.Prelude.{IfSome}
+use Rattle.lama_bfs.specs.Flat.{IsFlat}
 use Rattle.lama_bfs.proofs.Rounds.{Round}
 use Rattle.lama_bfs.proofs.breadth_first.levels.Given as goal
 
 abbrev pub invariant-loop-alloc : goal.invariant-loop-alloc
-invariant-loop-alloc g l = Round (g.R.Rows.rows l.rows) l.source l.level l.search.levels.items l.search.next.items
+invariant-loop-alloc g l = record {
+  round : Round (g.R.Rows.rows l.rows) l.source l.level l.search.levels.items l.search.next.items;
+  flat : IfSome l.flat (λ f. IsFlat (g.R.Rows.rows l.rows) f.starts.items f.targets.items);
+}
 
 abbrev pub decreases-loop-alloc : goal.decreases-loop-alloc
 decreases-loop-alloc g l = length (g.R.Rows.rows l.rows) - l.level

@@ -4,7 +4,8 @@ use Rattle.std.specs.List.{flat_map, range_with_len}
 use Rattle.std.proofs.lemmas.Bool.Decides.{nat_tests}
 use Rattle.std.proofs.lemmas.List.FromFn.{length-range_with_len}
 use Rattle.lama_model.specs.Row.{graph_of_rows, AreTargetsBelow}
-use Rattle.lama_label.specs.Lowering.{edges_from, AreLow, AreEdgesOf, AreSettled, IsLowered}
+use Rattle.lama_model.specs.Row.{edges_from}
+use Rattle.lama_label.specs.Lowering.{AreLow, AreEdgesOf, AreSettled, IsLowered}
 use Rattle.lama_label.proofs.Settled.{first-low, edges-of, settled-labels}
 use Rattle.lama_label.proofs.Ranges.{written-whole}
 use Rattle.lama_label.proofs.components.labels.Goals as goal

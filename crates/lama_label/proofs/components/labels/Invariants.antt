@@ -2,7 +2,8 @@ use Rattle.std.proofs.Common.{◌≡◌, ◌+◌, length, cond, false}
 use Rattle.std.specs.Prelude.{sum}
 use Rattle.std.specs.List.{range_with_len}
 use Rattle.lama_model.specs.Row.{graph_of_rows}
-use Rattle.lama_label.specs.Lowering.{edges_from, AreLow, AreSettled}
+use Rattle.lama_model.specs.Row.{edges_from}
+use Rattle.lama_label.specs.Lowering.{AreLow, AreSettled}
 use Rattle.lama_label.proofs.components.labels.Given as goal
 
 abbrev pub invariant-loop-changed : goal.invariant-loop-changed

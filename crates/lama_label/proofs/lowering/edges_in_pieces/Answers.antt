@@ -4,8 +4,8 @@ use Rattle.std.proofs.lemmas.Result.{IfOk-weaker}
 use Rattle.std.proofs.lemmas.List.FromFn.{length-range_with_len}
 use Rattle.lama_work.specs.Pieces.{piece_start}
 use Rattle.lama_work.proofs.Cover.{starts-rise, starts-within, cover, both-ok}
-use Rattle.lama_label.specs.Lowering.{edges_from}
-use Rattle.lama_label.proofs.Ranges.{edges-join}
+use Rattle.lama_model.specs.Row.{edges_from}
+use Rattle.lama_model.proofs.EdgePairs.{edges-join}
 use Rattle.lama_label.proofs.lowering.edges_in_pieces.Goals as goal
 
 pub map_pieces-requires-clause-accepts : goal.map_pieces-requires-clause-accepts

@@ -4,12 +4,21 @@ use Rattle.lama_model.specs.Opening.{empty_opening}
 use Rattle.lama_model.specs.Journal.{graph_of}
 use Rattle.lama_model.specs.Levels.{levels}
 use Rattle.lama_model.specs.Lines.{levels_text}
-use Rattle.lama_model.specs.Row.{graph_of_rows}
+use Rattle.lama_model.specs.Row.{edges_in, graph_of_rows}
 use Rattle.lama_snapshot.specs.Snap.{Snap}
 use Rattle.lama_snapshot.specs.Targets.{all_targets}
 use Rattle.lama_snapshot.proofs.TargetRows.{count-targets}
+use Rattle.llama_main.proofs.RankReading.{edges-of-graph, edges-of-targets}
 use Rattle.llama_main.proofs.Reading.{levels-read, levels-refused, levels-count}
 use Rattle.llama_main.proofs.interpreter.Interpreter.read_levels.Goals as goal
+
+pub levels-requires-clause-edges : goal.levels-requires-clause-edges
+levels-requires-clause-edges g c =
+    let rows = c.args.snapshot.now.rows in
+    let graph = graph_of empty_opening c.args.self.now.store.standing c.args.snapshot.now.number in
+    let many = ap (λ (t : Snap). edges_in (all_targets t.rows)) c.new-targets.ensures ∙ (edges-of-targets rows ∙ edges-of-graph graph rows c.requires.rows.rows c.requires.rows.graph.is) in
+    let few = c.requires.rows.graph.edges in
+    omega (arith, many, few)
 
 pub print_levels-requires : goal.print_levels-requires
 print_levels-requires g c =

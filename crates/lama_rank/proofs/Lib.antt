@@ -1,0 +1,4 @@
+pub mod Handing
+pub mod Pieces
+pub mod Recursion
+pub mod Counting
