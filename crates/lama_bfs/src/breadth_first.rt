@@ -1,6 +1,6 @@
 //! Levels, found from frontier to frontier.
 
-ghost use Rattle.std.specs.Prelude.{◌≡◌, ◌<◌, ◌≤◌, IfOk, IfSome, length};
+ghost use Rattle.std.specs.Prelude.{◌≡◌, ◌<◌, ◌≤◌, IfOk, IfSome, OnOk, length};
 ghost use Rattle.lama_model.specs.Row.{edges_in, graph_of_rows};
 ghost use Rattle.lama_model.specs.Levels.{levels};
 ghost use Rattle.lama_bfs.specs.Flat.{IsFlat};
@@ -53,32 +53,34 @@ where
     let mut level = 0;
     while !search.next.is_empty() {
         level += 1;
-        flat = flat_for(alloc, rows, flat, search.next.len(), workers)?;
+        lay_flat(alloc, rows, &mut flat, search.next.len(), workers)?;
         search.next_level(rt, alloc, rows, &flat, level, workers, gate)?;
     }
     let Search { levels, .. } = search;
     Ok(levels)
 }
 
-// The rows laid flat, where they are so already or where one worker comes to a frontier that is so large a part of all
-// vertices that most of them may be expected to follow it.
-fn flat_for<R: Rows>(
+// Lays the rows flat, where they are not so yet and one worker comes to a frontier that is so large a part of all vertices
+// that most of them may be expected to follow it.
+#[inline(always)]
+fn lay_flat<R: Rows>(
     alloc: Global,
     rows: &R,
-    flat: Option<Flat>,
+    flat: &mut Option<Flat>,
     frontier: usize,
     workers: u32,
-) -> Result<Option<Flat>, AllocError>
+) -> Result<(), AllocError>
     requires edges { edges_in (R.rows rows.now) ≤ 33554432 }
-    requires flat { IfSome flat (λ f. IsFlat (R.rows rows.now) f.starts.items f.targets.items) }
-    ensures { IfOk result (λ flat. IfSome flat (λ f. IsFlat (R.rows rows.now) f.starts.items f.targets.items)) }
+    requires flat { IfSome flat.old (λ f. IsFlat (R.rows rows.now) f.starts.items f.targets.items) }
+    ensures { OnOk result (IfSome flat.new (λ f. IsFlat (R.rows rows.now) f.starts.items f.targets.items)) }
 {
-    if flat.is_some()
+    if frontier < LARGE
         || workers > 1
-        || frontier < LARGE
+        || flat.is_some()
         || frontier < rows.count() as usize / PART
     {
-        return Ok(flat);
+        return Ok(());
     }
-    Ok(Some(Flat::of(alloc, rows)?))
+    *flat = Some(Flat::of(alloc, rows)?);
+    Ok(())
 }

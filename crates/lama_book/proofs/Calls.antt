@@ -39,7 +39,7 @@ use Rattle.lama_book.proofs.Keeping.{roomier}
 pub told : (o : Opening) (b m : Book) → IsRoomier b m → (call : Call) → IsBookOf o b → answers m call ≡ reply o b.journal call
 told o b m r call of = answers-reply o m (roomier o b m r of) call ∙ ap (λ (x : Book). reply o x.journal call) r.book
 
-newest-brief : (b : Book) → newest_of (opening_of (newest_number b) no_graph) (brief b.count b.added b.oldest) ≡ newest_number b
+pub newest-brief : (b : Book) → newest_of (opening_of (newest_number b) no_graph) (brief b.count b.added b.oldest) ≡ newest_number b
 newest-brief b = omega arith
 
 -- the replies to looks and checkpoints

@@ -4,3 +4,4 @@ pub mod Keeping
 pub mod Kept
 pub mod Checkpointing
 pub mod Calls
+pub mod Retiring

@@ -1,5 +1,5 @@
 -- What a contract sees of a book.
-use Rattle.std.specs.Prelude.{◌≡◌, ℕ, ◌+◌, ◌-◌, ◌<◌, ◌≤◌, List, [], ◌∷◌, ◌++◌, length, slice_index_or, All, sum_by}
+use Rattle.std.specs.Prelude.{◌≡◌, ℕ, ◌+◌, ◌-◌, ◌<◌, ◌≤◌, List, [], ◌∷◌, ◌++◌, length, drop, slice_index_or, All, sum_by}
 use Rattle.lama_model.specs.Graph.{no_graph, effect, IsNamedBelow}
 use Rattle.lama_model.specs.Row.{row_at, edges_in, graph_of_rows}
 use Rattle.lama_model.specs.Change.{Change, change_to, row_after}
@@ -121,4 +121,13 @@ pub record HasNext (old new : Book) : Type 0 where
 pub record HasCheckpoint (old new : Book) (e : Entry) : Type 0 where
   pub next : IsNext old (last_snap new)
   pub book : new ≡ record old { journal = old.journal ++ e ∷ []; kept = old.kept ++ last_snap new ∷ []; pending = []; spare = new.spare }
+  pub spare : old.spare ≤ new.spare + 1
+
+-- the snapshots before that of the number k are let go
+abbrev pub IsForgotten : Book → Book → ℕ → Type 0
+IsForgotten old new k = new ≡ record old { kept = drop (k - old.oldest) old.kept; oldest = k }
+
+-- and an entry more
+pub record HasRetired (old new : Book) (k : ℕ) (e : Entry) : Type 0 where
+  pub book : new ≡ record old { journal = old.journal ++ e ∷ []; kept = drop (k - old.oldest) old.kept; oldest = k; spare = new.spare }
   pub spare : old.spare ≤ new.spare + 1

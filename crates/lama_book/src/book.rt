@@ -4,13 +4,13 @@ ghost use Rattle.lama_model.specs.Bounds.{checkpoint_pages};
 ghost use Rattle.lama_model.specs.Opening.{Opening as ModelOpening};
 ghost use Rattle.lama_model.specs.Journal.{Standing, reply, is_accepted, edges_added, with_ends};
 ghost use Rattle.lama_model.specs.Graph.{effect};
-ghost use Rattle.lama_model.specs.declared.calls.Call.TheVariants.{Write as SeenWrite, Checkpoint as SeenCheckpoint, Look as SeenLook, LookAt as SeenLookAt};
+ghost use Rattle.lama_model.specs.declared.calls.Call.TheVariants.{Write as SeenWrite, Checkpoint as SeenCheckpoint, Look as SeenLook, LookAt as SeenLookAt, Retire as SeenRetire};
 ghost use Rattle.lama_model.specs.declared.answers.Refusal.{Refusal as SeenRefusal};
 ghost use Rattle.lama_model.specs.declared.answers.Refusal.TheVariants.{FullEdges};
 ghost use Rattle.lama_model.specs.declared.answers.Reply.TheVariants.{Accepted, Snapshot as SeenSnapshot, Refused as SeenRefused};
 ghost use Rattle.lama_snapshot.specs.Snap.{floor_of};
 ghost use Rattle.lama_book.specs.declared.fault.CallFault.TheVariants.{JournalFull, NoMemory};
-ghost use Rattle.lama_book.specs.Book.{newest_number, last_snap, snap_at, answers, next_change, IsRoomier, HasEntry, HasWrite, HasNext, HasCheckpoint, IsNext};
+ghost use Rattle.lama_book.specs.Book.{newest_number, last_snap, snap_at, answers, next_change, IsRoomier, HasEntry, HasWrite, HasNext, HasCheckpoint, IsForgotten, IsNext};
 ghost use Rattle.lama_book.specs.Relation.{Opens, IsBookOf};
 
 use crate::{CallFault, Opening};
@@ -216,6 +216,36 @@ impl Book {
         })
     }
 
+    /// Makes the snapshot of the number `k` the oldest one, where it is kept, and lets those before it go. A snapshot that is
+    /// held elsewhere stays as it is. Costs the snapshots that go, and a pointer for each of those that stay.
+    pub fn retire(&mut self, caller: u16, k: u32) -> Result<Reply, CallFault>
+        ensures reply { IfOk result (λ r. (o : ModelOpening) → IsBookOf o self.old → r ≡ reply o self.old.journal (SeenRetire k)) }
+        ensures book { OnOk result ((o : ModelOpening) → IsBookOf o self.old → IsBookOf o self.new) }
+        ensures entry { OnOk result (self.new.journal ≡ self.old.journal ++ record { caller = caller; call = SeenRetire k } ∷ []) }
+        ensures spare { OnOk result (self.old.spare ≤ self.new.spare + 1) }
+        ensures fault { OnErr result (IsRoomier self.old self.new) }
+        ensures full { (result ≡ SeenErr JournalFull) ↔ (length self.old.journal ≡ 4194304) }
+        ensures memory { 0 < self.old.spare → result ≢ SeenErr NoMemory }
+    {
+        self.enter()?;
+        let entry = Entry {
+            caller,
+            call: Call::Retire { k },
+        };
+        let newest = self.newest();
+        if k < self.oldest || newest < k {
+            let refusal = Refusal::NoSnapshot {
+                asked: k,
+                oldest: self.oldest,
+                newest,
+            };
+            return Ok(self.refuse(entry, refusal));
+        }
+        self.forget_below(k);
+        self.note(entry);
+        Ok(Reply::Kept { oldest: k, newest })
+    }
+
     /// The entries of the calls so far, oldest first.
     pub fn journal(&self) -> &[Entry]
         ensures is { result.now ≡ self.now.journal }
@@ -339,6 +369,19 @@ impl Book {
         self.added += more_edges(w);
         self.delta.push(w);
         self.journal.push_reserved(entry);
+    }
+
+    // Lets the snapshots before that of the number go.
+    fn forget_below(&mut self, k: u32)
+        requires low { self.old.oldest ≤ k }
+        requires high { k ≤ newest_number self.old }
+        ensures { IsForgotten self.old self.new k }
+    {
+        let gone = (k - self.oldest) as usize;
+        let stay = self.kept.len() - gone;
+        self.kept.rotate_left(gone);
+        self.kept.truncate(stay);
+        self.oldest = k;
     }
 
     // The snapshot after the pending writes.

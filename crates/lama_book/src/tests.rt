@@ -1,6 +1,6 @@
 ghost use Rattle.std.specs.Prelude.{◌≡◌, ◌<◌, ◌≤◌, [], ◌∷◌, drop};
 
-use crate::{Book, CallFault, Opening};
+use crate::{Book, CallFault, Looked, Opening};
 use lama_base::limits::MAX_JOURNAL;
 use lama_model::{Call, Entry, PlainRows, Refusal, Reply, Rows, Write};
 use lama_pages::Steps;
@@ -246,6 +246,121 @@ fn parallel_edges_of_the_base_and_a_level(rt: HostRuntime) -> Result<(), Fail> {
     assert_eq!(rt;
         after_base::<Brand>(alloc, &writes, Blank::new(1))?,
         Some(wanted)
+    );
+    Ok(())
+}
+
+// What is answered where these numbers are retired one after another, the row of vertex 0 in each snapshot that is kept then,
+// and in one that was held from before. Snapshot 1 has no edge, 2 has 0 to 1, 3 has 0 to 0 besides, and 4 has that alone.
+fn retire_each<L: Ledger>(
+    alloc: Global,
+    numbers: &[u32],
+    blank: Blank,
+) -> Result<Option<(Vec<Reply>, Vec<Vec<(u32, u64)>>, Vec<(u32, u64)>)>, AllocError>
+    requires name { blank.name ≡ L.name }
+    requires parts { blank.parts ≡ L.parts }
+    requires one { blank.parts ≡ 1 }
+{
+    let mut pages = Steps::<L>::open(blank);
+    let mut book = empty_book(alloc, &mut pages)?;
+    let writes = [
+        Write::Vertices(2),
+        Write::Add(0, 1, 7),
+        Write::Add(0, 0, 3),
+        Write::Remove(0, 1),
+    ];
+    for w in writes {
+        if book.write(1, w).is_err() || book.checkpoint(1, &mut pages).is_err() {
+            return Ok(None);
+        }
+    }
+    let Ok(
+        Looked {
+            snapshot: Some(held),
+            ..
+        },
+    ) = book.look_at(1, 2)
+    else {
+        return Ok(None);
+    };
+    let mut replies = Vec::new(alloc);
+    for &k in numbers {
+        let Ok(reply) = book.retire(1, k) else {
+            return Ok(None);
+        };
+        replies.push(reply)?;
+    }
+    let rows = first_rows(alloc, &book)?;
+    Ok(Some((replies, rows, first_row(alloc, &*held)?)))
+}
+
+#[test]
+fn a_retirement_lets_the_older_snapshots_go(rt: HostRuntime) -> Result<(), Fail> {
+    let alloc = rt.alloc();
+    let missing = |asked, oldest| {
+        Reply::Refused(Refusal::NoSnapshot {
+            asked,
+            oldest,
+            newest: 4,
+        })
+    };
+    let found = retire_each::<Brand>(alloc, &[5, 3, 2, 9, 3], Blank::new(1))?;
+    let replies = vec![in alloc;
+        missing(5, 0),
+        Reply::Kept {
+            oldest: 3,
+            newest: 4
+        },
+        missing(2, 3),
+        missing(9, 3),
+        Reply::Kept {
+            oldest: 3,
+            newest: 4
+        },
+    ]?;
+    let rows = vec![in alloc; vec![in alloc; (0, 3), (1, 7)]?, vec![in alloc; (0, 3)]?]?;
+    let held = vec![in alloc; (1, 7)]?;
+    assert_eq!(rt; found, Some((replies, rows, held)));
+    Ok(())
+}
+
+// What the checkpoint past the last one is answered, a retirement of the first, and a checkpoint after it.
+fn make_room<L: Ledger>(alloc: Global, blank: Blank) -> Result<Option<[Reply; 3]>, AllocError>
+    requires name { blank.name ≡ L.name }
+    requires parts { blank.parts ≡ L.parts }
+    requires one { blank.parts ≡ 1 }
+{
+    let mut pages = Steps::<L>::open(blank);
+    let mut book = empty_book(alloc, &mut pages)?;
+    for _ in 0..4095u32 {
+        if book.checkpoint(0, &mut pages).is_err() {
+            return Ok(None);
+        }
+    }
+    let Ok(full) = book.checkpoint(0, &mut pages) else {
+        return Ok(None);
+    };
+    let Ok(kept) = book.retire(0, 1) else {
+        return Ok(None);
+    };
+    let Ok(made) = book.checkpoint(0, &mut pages) else {
+        return Ok(None);
+    };
+    Ok(Some([full, kept, made]))
+}
+
+#[test]
+fn a_retirement_makes_room_for_a_snapshot(rt: HostRuntime) -> Result<(), Fail> {
+    assert_eq!(rt;
+        make_room::<Brand>(rt.alloc(), Blank::new(1))?,
+        Some([
+            Reply::Refused(Refusal::FullKept),
+            Reply::Kept {
+                oldest: 1,
+                newest: 4095
+            },
+            Reply::Snapshot { number: 4096 },
+        ])
     );
     Ok(())
 }

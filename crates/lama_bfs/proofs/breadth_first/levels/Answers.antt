@@ -23,7 +23,7 @@ pub loop-alloc-preserved : goal.loop-alloc-preserved
 loop-alloc-preserved g c =
     let l = c.loop-alloc in
     record {
-      flat = c.in_ok-flat.ensures;
+      flat = c.in_ok-lay_flat.ensures;
       round = next-round (g.R.Rows.rows c.args.rows.now) c.args.source l.level l.search.levels.items l.search.next.items l.invariant.round c.next_level.new.self.levels.items c.next_level.new.self.next.items c.in_ok-next_level.ensures;
     }
 
