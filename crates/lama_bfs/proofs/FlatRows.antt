@@ -1,8 +1,8 @@
 -- A row is found again where rows lie one after another.
-use Rattle.std.proofs.Common.{◌≡◌, ◌∙◌, ℕ, suc, ◌+◌, ◌-◌, ◌<◌, ◌≤◌, List, [], ◌∷◌, ◌++◌, length, get_or, take, drop, sym, ap, arith}
+use Rattle.std.proofs.Common.{◌≡◌, ◌∙◌, ℕ, ◌+◌, ◌-◌, ◌<◌, ◌≤◌, List, [], ◌++◌, length, get_or, take, drop, sym, ap, arith}
 use Rattle.std.specs.List.{between, flat_map, sum_by}
 use Rattle.std.proofs.Math.Seq.{take-append_seam, drop-append_seam}
-use Rattle.std.proofs.lemmas.List.{append-nil, length-map, take-append-drop, drop_more, take_more}
+use Rattle.std.proofs.lemmas.List.{length-map, take-append-drop, drop_more}
 use Rattle.std.proofs.lemmas.List.Concat.{flat_map-cons, length-flat_map}
 use Rattle.std.proofs.lemmas.List.Sums.{sum_by_more, sum_by-take-le}
 use Rattle.std.proofs.lemmas.List.FromFn.{get_or-map-range_with_len}
@@ -16,10 +16,6 @@ below-more rows u lt = sum_by_more (λ (r : List (ℕ × ℕ)). length r) rows u
 
 pub below-le : (rows : List (List (ℕ × ℕ))) (u : ℕ) → edges_below rows u ≤ edges_in rows
 below-le rows u = sum_by-take-le (λ (r : List (ℕ × ℕ)). length r) rows u
-
--- the targets of the rows up to one, and of one more
-pub firsts-more : (rows : List (List (ℕ × ℕ))) (u : ℕ) → u < length rows → flat_map firsts (take (u + 1) rows) ≡ flat_map firsts (take u rows) ++ firsts (row_at rows u)
-firsts-more rows u lt = ap (flat_map firsts) (take_more rows u [] lt) ∙ (flat_map-append firsts (take u rows) (row_at rows u ∷ []) ∙ ap (λ l. flat_map firsts (take u rows) ++ l) (flat_map-cons firsts (row_at rows u) [] ∙ append-nil (firsts (row_at rows u))))
 
 pub firsts-length : (rows : List (List (ℕ × ℕ))) → length (flat_map firsts rows) ≡ edges_in rows
 firsts-length rows = length-flat_map firsts rows ∙ (λ j. sum_by (λ (r : List (ℕ × ℕ)). length-map r (λ (p : ℕ × ℕ). p.0) j) rows)

@@ -12,18 +12,20 @@ use lama_model::Rows;
 use std::alloc::{AllocError, Global};
 use std::thread::Threads;
 
-// A frontier is large where it has so many vertices, and one of so many vertices of the graph.
+// A frontier of fewer vertices is not worth laying the rows flat for.
 const LARGE: usize = 400;
 
+// Nor is one that has less than this part of all vertices: one in so many.
 const PART: usize = 32;
 
 /// The level of each vertex from `source`, by its number: the least number of edges of a walk to it, and None where no
 /// walk leads to it. The source itself has level 0.
 ///
 /// Breadth-first search: from one frontier, the vertices of a level, to the next. Each vertex is marked when it is found,
-/// so the time is by the vertices and the edges that are reached. A large frontier is cut into a piece for each worker,
-/// and a piece reaches the gate before its work; a small one, and every one where there is one worker, is expanded by the
-/// caller. The only error is want of memory.
+/// so the time is by the vertices of the graph and the edges that are reached. A large frontier is cut into a piece for
+/// each worker, and a piece reaches the gate before its work; a small one, and every one where there is one worker, is
+/// expanded by the caller. One worker that comes to a frontier of a large part of the graph first puts the targets of all
+/// rows into one array, which costs all vertices and edges once, and four bytes for each. The only error is want of memory.
 pub fn levels<T: Threads + Sync, R: Rows + Sync, G: Gate + Sync>(
     rt: &T,
     alloc: Global,

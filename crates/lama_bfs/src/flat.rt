@@ -26,7 +26,7 @@ impl Flat {
         Ok(Flat { starts, targets })
     }
 
-    // The targets of a vertex's edges.
+    // The targets of a vertex's edges. The rows are there for the contract alone.
     #[inline(always)]
     pub(crate) fn row<R: Rows>(&self, rows: &R, u: u32) -> &[u32]
         requires flat { IsFlat (R.rows rows.now) self.now.starts.items self.now.targets.items }

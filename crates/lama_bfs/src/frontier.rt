@@ -124,7 +124,7 @@ impl Search {
         Ok(())
     }
 
-    // One vertex after another, where the rows lie flat.
+    // One vertex after another, where the rows lie flat. The rows are there for the contract alone.
     fn expand_flat<R: Rows>(
         &mut self,
         rows: &R,

@@ -22,15 +22,15 @@ use Rattle.lama_model.specs.Opening.{Opening, opening_of}
 use Rattle.lama_model.specs.Journal.{newest_of, reply, reply_at, is_accepted, edges_added}
 use Rattle.lama_model.specs.declared.calls.Write.{Write}
 use Rattle.lama_model.specs.declared.calls.Call.{Call}
-use Rattle.lama_model.specs.declared.calls.Call.TheVariants.{Write as Writes, Checkpoint, LookAt}
+use Rattle.lama_model.specs.declared.calls.Call.TheVariants.{Write as Writes, Checkpoint, LookAt, Retire}
 use Rattle.lama_model.specs.declared.calls.Entry.{Entry}
 use Rattle.lama_model.specs.declared.answers.Reply.{Reply}
 use Rattle.lama_model.specs.declared.answers.Reply.TheVariants.{Accepted, Count, Snapshot, Kept, Refused}
 use Rattle.lama_model.specs.declared.answers.Refusal.{Refusal}
 use Rattle.lama_model.specs.declared.answers.Refusal.TheVariants.{FullKept, FullNumbers, NoSnapshot}
 use Rattle.lama_model.proofs.StandingLemmas.{Meets, accepted_write, named-more, effect-count}
-use Rattle.lama_snapshot.specs.Snap.{Snap}
-use Rattle.lama_book.specs.Book.{Book, no_snap, brief, answers, newest_number, last_snap, with_write, next_change, IsWhole, IsRoomier, HasEntry, HasNext, HasCheckpoint, IsNext}
+use Rattle.lama_snapshot.specs.Snap.{Snap, no_snap}
+use Rattle.lama_book.specs.Book.{Book, brief, answers, newest_number, last_snap, with_write, next_change, IsWhole, IsRoomier, HasEntry, HasNext, HasCheckpoint, IsNext}
 use Rattle.lama_book.specs.Relation.{IsBookOf}
 use Rattle.lama_book.proofs.Answering.{answers-reply}
 use Rattle.lama_book.proofs.Keeping.{roomier}
@@ -42,12 +42,11 @@ told o b m r call of = answers-reply o m (roomier o b m r of) call ∙ ap (λ (x
 pub newest-brief : (b : Book) → newest_of (opening_of (newest_number b) no_graph) (brief b.count b.added b.oldest) ≡ newest_number b
 newest-brief b = omega arith
 
--- the replies to looks and checkpoints
-pub look_at-refused : (b : Book) (k : ℕ) → (k < b.oldest) ⊎ (newest_number b < k) → answers b (LookAt k) ≡ Refused (NoSnapshot k b.oldest (newest_number b))
-unfolding reply_at
-look_at-refused b k out =
-    ap (λ m. cond (ltb k b.oldest || ltb m k) (Refused (NoSnapshot k b.oldest m)) (Snapshot k)) (newest-brief b)
-    ∙ ap (λ t. cond t (Refused (NoSnapshot k b.oldest (newest_number b))) (Snapshot k)) (by out)
+-- the reply to a call that names a snapshot
+kept-refused : (b : Book) (k m : ℕ) (found : ℕ → Reply) → m ≡ newest_number b → (k < b.oldest) ⊎ (newest_number b < k) → cond (ltb k b.oldest || ltb m k) (Refused (NoSnapshot k b.oldest m)) (found m) ≡ Refused (NoSnapshot k b.oldest (newest_number b))
+kept-refused b k m found is out =
+    ap (λ n. cond (ltb k b.oldest || ltb n k) (Refused (NoSnapshot k b.oldest n)) (found n)) is
+    ∙ ap (λ t. cond t (Refused (NoSnapshot k b.oldest (newest_number b))) (found (newest_number b))) (by out)
   where
     or-true : (x : Bool) → (x || true) ≡ true
     or-true true = refl
@@ -57,15 +56,31 @@ look_at-refused b k out =
     by (inl low) = (let t : ltb k b.oldest ≡ true = grind (arith, nat_tests, low) in ap (λ x. x || ltb (newest_number b) k) t)
     by (inr high) = (let t : ltb (newest_number b) k ≡ true = grind (arith, nat_tests, high) in ap (λ x. ltb k b.oldest || x) t ∙ or-true (ltb k b.oldest))
 
-pub look_at-found : (b : Book) (k : ℕ) → b.oldest ≤ k → k ≤ newest_number b → answers b (LookAt k) ≡ Snapshot k
-unfolding reply_at
-look_at-found b k low high =
+kept-found : (b : Book) (k m : ℕ) (found : ℕ → Reply) → m ≡ newest_number b → b.oldest ≤ k → k ≤ newest_number b → cond (ltb k b.oldest || ltb m k) (Refused (NoSnapshot k b.oldest m)) (found m) ≡ found (newest_number b)
+kept-found b k m found is low high =
     let t : ltb k b.oldest ≡ false = grind (arith, nat_tests, low) in
     let u : ltb (newest_number b) k ≡ false = grind (arith, nat_tests, high) in
-    ap (λ m. cond (ltb k b.oldest || ltb m k) (Refused (NoSnapshot k b.oldest m)) (Snapshot k)) (newest-brief b)
-    ∙ (ap (λ x. cond (x || ltb (newest_number b) k) (Refused (NoSnapshot k b.oldest (newest_number b))) (Snapshot k)) t
-    ∙ ap (λ x. cond (false || x) (Refused (NoSnapshot k b.oldest (newest_number b))) (Snapshot k)) u)
+    ap (λ n. cond (ltb k b.oldest || ltb n k) (Refused (NoSnapshot k b.oldest n)) (found n)) is
+    ∙ (ap (λ x. cond (x || ltb (newest_number b) k) (Refused (NoSnapshot k b.oldest (newest_number b))) (found (newest_number b))) t
+    ∙ ap (λ x. cond (false || x) (Refused (NoSnapshot k b.oldest (newest_number b))) (found (newest_number b))) u)
 
+pub look_at-refused : (b : Book) (k : ℕ) → (k < b.oldest) ⊎ (newest_number b < k) → answers b (LookAt k) ≡ Refused (NoSnapshot k b.oldest (newest_number b))
+unfolding reply_at
+look_at-refused b k out = kept-refused b k (newest_of (opening_of (newest_number b) no_graph) (brief b.count b.added b.oldest)) (λ n. Snapshot k) (newest-brief b) out
+
+pub look_at-found : (b : Book) (k : ℕ) → b.oldest ≤ k → k ≤ newest_number b → answers b (LookAt k) ≡ Snapshot k
+unfolding reply_at
+look_at-found b k low high = kept-found b k (newest_of (opening_of (newest_number b) no_graph) (brief b.count b.added b.oldest)) (λ n. Snapshot k) (newest-brief b) low high
+
+pub retire-refused : (b : Book) (k : ℕ) → (k < b.oldest) ⊎ (newest_number b < k) → answers b (Retire k) ≡ Refused (NoSnapshot k b.oldest (newest_number b))
+unfolding reply_at
+retire-refused b k out = kept-refused b k (newest_of (opening_of (newest_number b) no_graph) (brief b.count b.added b.oldest)) (λ n. Kept k n) (newest-brief b) out
+
+pub retire-found : (b : Book) (k : ℕ) → b.oldest ≤ k → k ≤ newest_number b → answers b (Retire k) ≡ Kept k (newest_number b)
+unfolding reply_at
+retire-found b k low high = kept-found b k (newest_of (opening_of (newest_number b) no_graph) (brief b.count b.added b.oldest)) (λ n. Kept k n) (newest-brief b) low high
+
+-- the replies to checkpoints
 pub checkpoint-numbers : (b : Book) → 100000000 ≤ newest_number b → answers b Checkpoint ≡ Refused FullNumbers
 unfolding reply_at
 checkpoint-numbers b many =

@@ -1,79 +1,27 @@
 -- A book with the next snapshot stands for a journal with an accepted checkpoint more.
-use Rattle.std.proofs.Common.{◌≡◌, ◌∙◌, ℕ, ◌+◌, ◌-◌, ◌<◌, ◌≤◌, List, [], ◌∷◌, ◌++◌, length, get_or, map, reverse, Bool, true, false, cond, leb, eqb, refl, sym, ap, subst, arith, inl, inr, ◌⊎◌}
-use Rattle.std.specs.Prelude.{All, filter}
+use Rattle.std.proofs.Common.{◌≡◌, ◌∙◌, ℕ, ◌+◌, ◌-◌, ◌<◌, ◌≤◌, [], ◌∷◌, ◌++◌, length, get_or, true, false, cond, leb, refl, sym, ap, subst, arith, inl, inr, ◌⊎◌}
 use Rattle.std.proofs.lemmas.Bool.{cases_lt}
 use Rattle.std.proofs.lemmas.Bool.Decides.{nat_tests}
-use Rattle.std.proofs.lemmas.List.{length_push, get_or_append_left, get_or_push, get_or_past}
-use Rattle.std.proofs.lemmas.List.Elements.{All-head, All-tail, All-nil, All-push, All-get_or}
-use Rattle.lama_base.specs.declared.Edge.{Edge}
-use Rattle.lama_model.specs.Graph.{Graph, IsGraph, no_graph}
+use Rattle.std.proofs.lemmas.List.{length_push, get_or_append_left, get_or_push}
+use Rattle.lama_model.specs.Graph.{Graph, IsGraph}
 use Rattle.lama_model.specs.Row.{row, row_at, AreRowsOf, graph_of_rows}
 use Rattle.lama_model.specs.Change.{Change, change_to, change_between, changed_rows, graph_after, row_after}
-use Rattle.lama_model.specs.Opening.{Opening, IsOpening, last_number, opening_graph, opening_change, no_change}
-use Rattle.lama_model.specs.Journal.{Standing, newest_of, graph_of, change_of, floor_of, standing, reply_at, is_accepted, done, after}
-use Rattle.lama_model.specs.declared.calls.Call.{Call}
-use Rattle.lama_model.specs.declared.calls.Call.TheVariants.{Write as Writes, Checkpoint, Look, LookAt, Install, Retire}
+use Rattle.lama_model.specs.Opening.{Opening, IsOpening, last_number, opening_change, no_change}
+use Rattle.lama_model.specs.Journal.{Standing, newest_of, graph_of, change_of, floor_of, standing, is_accepted, done, after}
+use Rattle.lama_model.specs.declared.calls.Call.TheVariants.{Checkpoint}
 use Rattle.lama_model.specs.declared.calls.Entry.{Entry}
 use Rattle.lama_model.proofs.ChangeLaw.{change_law}
-use Rattle.lama_model.proofs.StandingLemmas.{standing-keeps, standing-push, standing-step, IsStanding, is_standing, graph_of-new}
+use Rattle.lama_model.proofs.GraphSteps.{row-everywhere, IsSound, sound, graph-is}
+use Rattle.lama_model.proofs.StandingLemmas.{standing-push, IsStanding, graph_of-new}
 use Rattle.lama_model.proofs.JournalLaws.{extends-done, graph_of-extends, change_of-extends}
 use Rattle.lama_delta.proofs.Effects.{changed_rows-are, changed_rows-graph}
 use Rattle.lama_snapshot.specs.BaseRows.{Numbered}
 use Rattle.lama_snapshot.specs.Snap as snap
-use Rattle.lama_snapshot.specs.Snap.{Snap, change_at}
-use Rattle.lama_book.specs.Book.{Book, no_snap, last_snap, newest_number, answers, next_change, HasCheckpoint, IsNext}
+use Rattle.lama_snapshot.specs.Snap.{Snap, change_at, no_snap}
+use Rattle.lama_book.specs.Book.{Book, last_snap, newest_number, answers, next_change, HasCheckpoint, IsNext}
 use Rattle.lama_book.specs.Relation.{IsSnapshotOf, Agrees, IsBookOf}
-use Rattle.lama_book.proofs.OpeningLemmas.{sources-below}
 use Rattle.lama_book.proofs.Answering.{answers-reply, newest-is}
 use Rattle.lama_book.proofs.Keeping.{floor-first, snapshot-extends, after-accepted}
-
--- no edge leaves a vertex past the count
-filter-none : (n v : ℕ) (es : List Edge) → n ≤ v → All (λ e. e.source < n) es → filter (λ e. eqb e.source v) es ≡ []
-filter-none n v [] le h = refl
-filter-none n v (e ∷ es) le h =
-    let first = All-head (λ (e : Edge). e.source < n) e es h in
-    let t : eqb e.source v ≡ false = grind (arith, nat_tests, first) in
-    ap (λ b. cond b (e ∷ filter (λ e. eqb e.source v) es) (filter (λ e. eqb e.source v) es)) t ∙ filter-none n v es le (All-tail (λ (e : Edge). e.source < n) e es h)
-
-row-past : (g : Graph) (v : ℕ) → IsGraph g → g.count ≤ v → row g v ≡ []
-row-past g v is le = ap (λ (es : List Edge). reverse (map (λ e. (e.target, e.weight)) es)) (filter-none g.count v g.edges le (sources-below g is))
-
--- the rows are those of the graph past their end too
-pub row-everywhere : (rows : List (List (ℕ × ℕ))) (g : Graph) (v : ℕ) → AreRowsOf rows g → IsGraph g → row_at rows v ≡ row g v
-row-everywhere rows g v of is = by (cases_lt v g.count)
-  where
-    by : (v < g.count) ⊎ (g.count ≤ v) → row_at rows v ≡ row g v
-    by (inl lt) = of.each v lt
-    by (inr ge) = (let c = of.count in get_or_past rows v [] (omega (arith, c, ge))) ∙ sym (row-past g v is ge)
-
--- what a journal leaves, and that its graphs are graphs
-record IsSound (o : Opening) (s : Standing) : Type 0 where
-  pub is : IsStanding o s
-  pub made : All IsGraph s.made
-
-sound-step : (o : Opening) (s : Standing) (call : Call) → IsSound o s → IsSound o (after o s call)
-unfolding after
-sound-step o s call h = record { is = standing-step o s call h.is; made = by (is_accepted (reply_at o s call)) call }
-  where
-    by : (b : Bool) (call : Call) → All IsGraph (cond b (done call s) s).made
-    by false call = h.made
-    by true (Writes w) = h.made
-    by true Checkpoint = All-push IsGraph s.made s.graph h.made h.is.is_graph
-    by true Look = h.made
-    by true (LookAt k) = h.made
-    by true (Install k) = h.made
-    by true (Retire k) = h.made
-
-sound : (o : Opening) → IsOpening o → (journal : List Entry) → IsSound o (standing o journal)
-unfolding standing
-sound o is journal = standing-keeps o (IsSound o) (record { is = is_standing o is []; made = All-nil IsGraph }) (sound-step o) journal
-
-graph-is : (o : Opening) (s : Standing) (k : ℕ) → IsOpening o → IsSound o s → k ≤ newest_of o s → IsGraph (graph_of o s k)
-graph-is o s k is h le = by (leb k (last_number o)) refl
-  where
-    by : (b : Bool) → leb k (last_number o) ≡ b → IsGraph (cond b (opening_graph o k) (get_or s.made (k - last_number o - 1) no_graph))
-    by true t = is.graphs k
-    by false t = let above : last_number o < k = grind (arith, nat_tests, t) in All-get_or IsGraph s.made (k - last_number o - 1) no_graph (omega (arith, above, le)) h.made
 
 -- the change of the new number
 change-new : (o : Opening) (s : Standing) → IsStanding o s → change_of o (done Checkpoint s) (newest_of o s + 1) ≡ change_between (graph_of o s (newest_of o s)) s.pending (newest_of o s + 1)

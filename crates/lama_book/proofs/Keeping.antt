@@ -14,8 +14,8 @@ use Rattle.lama_model.specs.declared.answers.Reply.TheVariants.{Refused}
 use Rattle.lama_model.specs.declared.answers.Refusal.{Refusal}
 use Rattle.lama_model.proofs.StandingLemmas.{standing-push, is_standing}
 use Rattle.lama_model.proofs.JournalLaws.{Extends, extends-done, graph_of-extends, change_of-extends}
-use Rattle.lama_snapshot.specs.Snap.{Snap}
-use Rattle.lama_book.specs.Book.{Book, no_snap, answers, with_write, IsRoomier, HasEntry, HasWrite}
+use Rattle.lama_snapshot.specs.Snap.{Snap, no_snap}
+use Rattle.lama_book.specs.Book.{Book, answers, with_write, IsRoomier, HasEntry, HasWrite}
 use Rattle.lama_book.specs.Relation.{IsSnapshotOf, Agrees, IsBookOf}
 use Rattle.lama_book.proofs.Answering.{answers-reply}
 

@@ -2,8 +2,8 @@
 use Rattle.std.proofs.Common.{◌≡◌, ℕ, ◌-◌, ◌≤◌, List, [], ◌∷◌, ◌++◌, length, get_or, sym, ap, subst, ◌∙◌, arith, length-append}
 use Rattle.std.proofs.Math.Seq.{get_or-append_seam}
 use Rattle.std.proofs.lemmas.Bool.Decides.{nat_tests}
-use Rattle.lama_snapshot.specs.Snap.{Snap}
-use Rattle.lama_book.specs.Book.{Book, no_snap, last_snap, IsNext, HasNext}
+use Rattle.lama_snapshot.specs.Snap.{Snap, no_snap}
+use Rattle.lama_book.specs.Book.{Book, last_snap, IsNext, HasNext}
 use Rattle.lama_book.specs.Shown.{least}
 
 -- where one of two numbers is greater, the smaller of them and a third is no less

@@ -5,3 +5,4 @@ pub mod Kept
 pub mod Checkpointing
 pub mod Calls
 pub mod Retiring
+pub mod Telling

@@ -2,18 +2,18 @@
 use Rattle.std.proofs.Common.{◌≡◌, ◌∙◌, ℕ, zero, suc, ◌-◌, ◌<◌, ◌≤◌, List, [], ◌∷◌, length, take, get_or, refl, sym, ap, subst, arith, true, cond, leb}
 use Rattle.std.specs.Prelude.{All}
 use Rattle.std.proofs.lemmas.Bool.Decides.{nat_tests}
-use Rattle.std.proofs.lemmas.List.Elements.{All-weaker}
+use Rattle.std.proofs.lemmas.List.Elements.{All-nil, All-weaker}
 use Rattle.lama_base.specs.declared.Edge.{Edge}
 use Rattle.lama_model.specs.Graph.{Graph, IsGraph, no_graph}
 use Rattle.lama_model.specs.Row.{AreRowsOf, edges_in}
+use Rattle.lama_model.specs.Change.{IsChange}
 use Rattle.lama_model.specs.Opening.{Opening, last_number, opening_graph, opening_of, with_changes}
 use Rattle.lama_model.specs.Journal.{Standing, begun, graph_of, standing}
 use Rattle.lama_model.specs.declared.calls.Entry.{Entry}
 use Rattle.lama_model.specs.declared.calls.Write.{Write}
-use Rattle.lama_book.specs.Book.{no_snap}
 use Rattle.lama_model.proofs.Counting.{edges-counted}
 use Rattle.lama_snapshot.specs.BaseRows.{Numbered}
-use Rattle.lama_snapshot.specs.Snap.{Snap}
+use Rattle.lama_snapshot.specs.Snap.{Snap, no_snap}
 use Rattle.lama_book.specs.Relation.{IsSnapshotOf, Agrees, Opens}
 
 -- the sources of a graph are below its count
@@ -48,6 +48,7 @@ opens number rows x n b rs none few vertices edges g is of =
         number = omega (arith, few);
         vertices = omega (arith, c, count, vertices);
         edges = omega (arith, e, counted, edges);
+        valid = All-nil IsChange;
         fits = λ k low high. absurd (omega (arith, low, high));
         graphs = λ k. subst IsGraph (sym (take-nothing (k - number) g)) is;
       };

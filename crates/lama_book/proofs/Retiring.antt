@@ -1,50 +1,21 @@
 -- A retirement: what is answered, and what is kept after it.
-use Rattle.std.proofs.Common.{◌≡◌, ◌∙◌, ℕ, ◌+◌, ◌-◌, ◌<◌, ◌≤◌, List, [], ◌∷◌, ◌++◌, length, get_or, map, drop, take, max, Bool, true, false, cond, ltb, ◌||◌, refl, sym, ap, subst, arith, inl, inr, ◌⊎◌}
-use Rattle.std.proofs.lemmas.Bool.Decides.{nat_tests}
+use Rattle.std.proofs.Common.{◌≡◌, ◌∙◌, ℕ, ◌+◌, ◌-◌, ◌<◌, ◌≤◌, List, [], ◌∷◌, ◌++◌, length, get_or, map, drop, take, max, sym, ap, subst, arith}
 use Rattle.std.proofs.Math.Seq.{take-append_seam}
 use Rattle.std.proofs.lemmas.List.{length-drop, get_or-drop, drop-map}
 use Rattle.std.specs.Prelude.{sum_by}
-use Rattle.lama_model.specs.Graph.{no_graph}
 use Rattle.lama_model.specs.Row.{edges_in}
-use Rattle.lama_model.specs.Opening.{Opening, opening_of}
-use Rattle.lama_model.specs.Journal.{Standing, newest_of, reply_at, is_accepted, edges_added, standing, done, after}
+use Rattle.lama_model.specs.Opening.{Opening}
+use Rattle.lama_model.specs.Journal.{Standing, newest_of, is_accepted, edges_added, standing, done, after}
 use Rattle.lama_model.specs.declared.calls.Call.TheVariants.{Retire}
 use Rattle.lama_model.specs.declared.calls.Entry.{Entry}
-use Rattle.lama_model.specs.declared.answers.Reply.TheVariants.{Kept, Refused}
-use Rattle.lama_model.specs.declared.answers.Refusal.TheVariants.{NoSnapshot}
 use Rattle.lama_model.proofs.StandingLemmas.{standing-push, is_standing}
 use Rattle.lama_model.proofs.JournalLaws.{extends-done}
-use Rattle.lama_snapshot.specs.Snap.{Snap}
-use Rattle.lama_book.specs.Book.{Book, no_snap, answers, newest_number, last_snap, IsWhole, HasEntry, IsForgotten, HasRetired}
+use Rattle.lama_snapshot.specs.Snap.{Snap, no_snap}
+use Rattle.lama_book.specs.Book.{Book, newest_number, last_snap, IsWhole, HasEntry, IsForgotten, HasRetired}
 use Rattle.lama_book.specs.Relation.{IsSnapshotOf, Agrees, IsBookOf}
 use Rattle.lama_book.proofs.Answering.{answers-reply}
 use Rattle.lama_book.proofs.Keeping.{snapshot-extends, after-accepted}
-use Rattle.lama_book.proofs.Calls.{newest-brief}
-
--- where no snapshot of the number is kept
-pub retire-refused : (b : Book) (k : ℕ) → (k < b.oldest) ⊎ (newest_number b < k) → answers b (Retire k) ≡ Refused (NoSnapshot k b.oldest (newest_number b))
-unfolding reply_at
-retire-refused b k out =
-    ap (λ m. cond (ltb k b.oldest || ltb m k) (Refused (NoSnapshot k b.oldest m)) (Kept k m)) (newest-brief b)
-    ∙ ap (λ t. cond t (Refused (NoSnapshot k b.oldest (newest_number b))) (Kept k (newest_number b))) (by out)
-  where
-    or-true : (x : Bool) → (x || true) ≡ true
-    or-true true = refl
-    or-true false = refl
-
-    by : (k < b.oldest) ⊎ (newest_number b < k) → (ltb k b.oldest || ltb (newest_number b) k) ≡ true
-    by (inl low) = (let t : ltb k b.oldest ≡ true = grind (arith, nat_tests, low) in ap (λ x. x || ltb (newest_number b) k) t)
-    by (inr high) = (let t : ltb (newest_number b) k ≡ true = grind (arith, nat_tests, high) in ap (λ x. ltb k b.oldest || x) t ∙ or-true (ltb k b.oldest))
-
--- where it is
-pub retire-found : (b : Book) (k : ℕ) → b.oldest ≤ k → k ≤ newest_number b → answers b (Retire k) ≡ Kept k (newest_number b)
-unfolding reply_at
-retire-found b k low high =
-    let t : ltb k b.oldest ≡ false = grind (arith, nat_tests, low) in
-    let u : ltb (newest_number b) k ≡ false = grind (arith, nat_tests, high) in
-    ap (λ m. cond (ltb k b.oldest || ltb m k) (Refused (NoSnapshot k b.oldest m)) (Kept k m)) (newest-brief b)
-    ∙ (ap (λ x. cond (x || ltb (newest_number b) k) (Refused (NoSnapshot k b.oldest (newest_number b))) (Kept k (newest_number b))) t
-    ∙ ap (λ x. cond (false || x) (Refused (NoSnapshot k b.oldest (newest_number b))) (Kept k (newest_number b))) u)
+use Rattle.lama_book.proofs.Calls.{retire-found}
 
 -- of those that stay the last one is the newest still
 last-drop : (n : ℕ) (xs : List Snap) → n < length xs → get_or (drop n xs) (length (drop n xs) - 1) no_snap ≡ get_or xs (length xs - 1) no_snap

@@ -9,7 +9,7 @@ use Rattle.lama_model.specs.declared.calls.Write.{Write}
 use Rattle.lama_model.specs.declared.calls.Call.{Call}
 use Rattle.lama_model.specs.declared.calls.Entry.{Entry}
 use Rattle.lama_model.specs.declared.answers.Reply.{Reply}
-use Rattle.lama_snapshot.specs.Snap.{Snap}
+use Rattle.lama_snapshot.specs.Snap.{Snap, no_snap}
 
 -- a book: the calls so far, the kept snapshots and the writes that wait, all oldest first; how many calls more take no memory of their own; the vertices and the added edges where it stands; and the oldest number that is kept
 pub record Book : Type 0 where
@@ -20,19 +20,6 @@ pub record Book : Type 0 where
   pub count : ℕ
   pub added : ℕ
   pub oldest : ℕ
-
--- no snapshot
-abbrev pub no_snap : Snap
-no_snap = record {
-  number = 0;
-  base = record { number = 0; rows = [] };
-  rows = [];
-  changes = [];
-  edge_count = 0;
-  layout = record { floor = 0; base = []; levels = [] };
-  columns = record { marks = []; weights = [] };
-  cells = [];
-}
 
 -- the newest number
 abbrev pub newest_number : Book → ℕ

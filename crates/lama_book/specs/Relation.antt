@@ -5,8 +5,8 @@ use Rattle.lama_model.specs.Opening.{Opening, IsOpening, last_number}
 use Rattle.lama_model.specs.Journal.{Standing, begun, standing, newest_of, graph_of, change_of, floor_of}
 use Rattle.lama_model.specs.declared.calls.Write.{Write}
 use Rattle.lama_snapshot.specs.Snap as snap
-use Rattle.lama_snapshot.specs.Snap.{Snap, change_at}
-use Rattle.lama_book.specs.Book.{Book, no_snap}
+use Rattle.lama_snapshot.specs.Snap.{Snap, change_at, no_snap}
+use Rattle.lama_book.specs.Book.{Book}
 
 -- the snapshot is that of the number k: it has the rows of its graph, and above its floor the changes that led to it
 pub record IsSnapshotOf (o : Opening) (s : Standing) (k : ℕ) (x : Snap) : Type 0 where

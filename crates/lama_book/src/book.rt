@@ -1,4 +1,4 @@
-ghost use Rattle.std.specs.Prelude.{◌≡◌, ◌≢◌, ◌↔◌, ◌+◌, ◌-◌, ◌<◌, ◌≤◌, nat_le, if◌then◌else◌, [], ◌∷◌, ◌++◌, ℕ, true, Ok as SeenOk, Err as SeenErr, IfOk, IfErr, OnOk, OnErr, MatchOption, length, map};
+ghost use Rattle.std.specs.Prelude.{◌≡◌, ◌≢◌, ◌↔◌, ◌+◌, ◌-◌, ◌<◌, ◌≤◌, ◌⊎◌, nat_le, if◌then◌else◌, [], ◌∷◌, ◌++◌, ℕ, true, Ok as SeenOk, Err as SeenErr, IfOk, IfErr, OnOk, OnErr, MatchOption, length, map};
 ghost use Rattle.std.specs.Arc.{arc_value};
 ghost use Rattle.lama_model.specs.Bounds.{checkpoint_pages};
 ghost use Rattle.lama_model.specs.Opening.{Opening as ModelOpening};
@@ -6,7 +6,7 @@ ghost use Rattle.lama_model.specs.Journal.{Standing, reply, is_accepted, edges_a
 ghost use Rattle.lama_model.specs.Graph.{effect};
 ghost use Rattle.lama_model.specs.declared.calls.Call.TheVariants.{Write as SeenWrite, Checkpoint as SeenCheckpoint, Look as SeenLook, LookAt as SeenLookAt, Retire as SeenRetire};
 ghost use Rattle.lama_model.specs.declared.answers.Refusal.{Refusal as SeenRefusal};
-ghost use Rattle.lama_model.specs.declared.answers.Refusal.TheVariants.{FullEdges};
+ghost use Rattle.lama_model.specs.declared.answers.Refusal.TheVariants.{FullEdges, NoSnapshot};
 ghost use Rattle.lama_model.specs.declared.answers.Reply.TheVariants.{Accepted, Snapshot as SeenSnapshot, Refused as SeenRefused};
 ghost use Rattle.lama_snapshot.specs.Snap.{floor_of};
 ghost use Rattle.lama_book.specs.declared.fault.CallFault.TheVariants.{JournalFull, NoMemory};
@@ -194,13 +194,7 @@ impl Book {
             caller,
             call: Call::LookAt { k },
         };
-        let newest = self.newest();
-        if k < self.oldest || newest < k {
-            let refusal = Refusal::NoSnapshot {
-                asked: k,
-                oldest: self.oldest,
-                newest,
-            };
+        if let Some(refusal) = self.missing(k) {
             return Ok(Looked {
                 reply: self.refuse(entry, refusal),
                 snapshot: None,
@@ -232,15 +226,10 @@ impl Book {
             caller,
             call: Call::Retire { k },
         };
-        let newest = self.newest();
-        if k < self.oldest || newest < k {
-            let refusal = Refusal::NoSnapshot {
-                asked: k,
-                oldest: self.oldest,
-                newest,
-            };
+        if let Some(refusal) = self.missing(k) {
             return Ok(self.refuse(entry, refusal));
         }
+        let newest = self.newest();
         self.forget_below(k);
         self.note(entry);
         Ok(Reply::Kept { oldest: k, newest })
@@ -369,6 +358,22 @@ impl Book {
         self.added += more_edges(w);
         self.delta.push(w);
         self.journal.push_reserved(entry);
+    }
+
+    // The refusal where no snapshot of the number is kept.
+    fn missing(&self, k: u32) -> Option<Refusal>
+        ensures { MatchOption result ((self.now.oldest ≤ k) × (k ≤ newest_number self.now)) (λ r.
+            (r ≡ NoSnapshot k self.now.oldest (newest_number self.now)) × ((k < self.now.oldest) ⊎ (newest_number self.now < k))) }
+    {
+        let newest = self.newest();
+        if k < self.oldest || newest < k {
+            return Some(Refusal::NoSnapshot {
+                asked: k,
+                oldest: self.oldest,
+                newest,
+            });
+        }
+        None
     }
 
     // Lets the snapshots before that of the number go.

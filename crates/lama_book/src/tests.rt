@@ -4,6 +4,7 @@ use crate::{Book, CallFault, Looked, Opening};
 use lama_base::limits::MAX_JOURNAL;
 use lama_model::{Call, Entry, PlainRows, Refusal, Reply, Rows, Write};
 use lama_pages::Steps;
+use lama_snapshot::Snapshot;
 use std::alloc::{AllocError, Global};
 use std::marker::Brand;
 use std::sync::ledger::{Blank, Ledger};
@@ -362,5 +363,97 @@ fn a_retirement_makes_room_for_a_snapshot(rt: HostRuntime) -> Result<(), Fail> {
             Reply::Snapshot { number: 4096 },
         ])
     );
+    Ok(())
+}
+
+// The targets of the row of `v` in the graph of the number `k`, where the snapshot tells them.
+fn told(alloc: Global, s: &Snapshot, v: u32, k: u32) -> Result<Option<Vec<u32>>, AllocError> {
+    if v >= s.count() || k < s.floor() || s.number() < k {
+        return Ok(None);
+    }
+    Ok(Some(s.row_as_of(alloc, v, k)?))
+}
+
+// What each kept snapshot tells of the row of `v` under the numbers 0 to 3.
+fn all_told(alloc: Global, book: &Book, v: u32) -> Result<Vec<Option<Vec<u32>>>, AllocError> {
+    let mut rows = Vec::new(alloc);
+    for snapshot in book.kept() {
+        for k in 0..4 {
+            rows.push(told(alloc, &**snapshot, v, k)?)?;
+        }
+    }
+    Ok(rows)
+}
+
+// What the snapshots of these writes tell of the rows of vertices 0 and 3. A checkpoint is made where no write is.
+fn earlier_rows<L: Ledger>(
+    alloc: Global,
+    writes: &[Option<Write>],
+    blank: Blank,
+) -> Result<Option<(Vec<Option<Vec<u32>>>, Vec<Option<Vec<u32>>>)>, AllocError>
+    requires name { blank.name ≡ L.name }
+    requires parts { blank.parts ≡ L.parts }
+    requires one { blank.parts ≡ 1 }
+{
+    let mut pages = Steps::<L>::open(blank);
+    let mut book = empty_book(alloc, &mut pages)?;
+    for &next in writes {
+        let reply = match next {
+            Some(w) => book.write(0, w),
+            None => book.checkpoint(0, &mut pages),
+        };
+        if reply.is_err() {
+            return Ok(None);
+        }
+    }
+    Ok(Some((all_told(alloc, &book, 0)?, all_told(alloc, &book, 3)?)))
+}
+
+// Rows of targets, where there are some.
+fn rows_of(alloc: Global, lists: &[Option<&[u32]>]) -> Result<Vec<Option<Vec<u32>>>, AllocError> {
+    let mut rows = Vec::new(alloc);
+    for &list in lists {
+        match list {
+            Some(targets) => rows.push(Some(Vec::from_slice(alloc, targets)?))?,
+            None => rows.push(None)?,
+        }
+    }
+    Ok(rows)
+}
+
+// Edges of two levels go and are weighed anew, and vertex 3 comes with the second checkpoint.
+#[test]
+fn each_snapshot_tells_the_graphs_from_its_floor_on(rt: HostRuntime) -> Result<(), Fail> {
+    let alloc = rt.alloc();
+    let writes = [
+        Some(Write::Vertices(3)),
+        Some(Write::Add(0, 1, 5)),
+        Some(Write::Add(0, 2, 6)),
+        None,
+        Some(Write::Vertices(1)),
+        Some(Write::Add(3, 0, 1)),
+        Some(Write::Remove(0, 1)),
+        Some(Write::Weigh(0, 2, 9)),
+        Some(Write::Add(0, 0, 7)),
+        None,
+        Some(Write::Remove(0, 0)),
+        None,
+    ];
+    let none: [Option<&[u32]>; 4] = [None, None, None, None];
+    match earlier_rows::<Brand>(alloc, &writes, Blank::new(1))? {
+        None => assert_eq!(rt; true, false),
+        Some((first, last)) => {
+            let mut of_first: Vec<Option<&[u32]>> = Vec::from_slice(alloc, &none)?;
+            of_first.extend_from_slice(&[Some(&[]), Some(&[2, 1]), None, None])?;
+            of_first.extend_from_slice(&[Some(&[]), Some(&[2, 1]), Some(&[0, 2]), None])?;
+            of_first.extend_from_slice(&[Some(&[]), Some(&[2, 1]), Some(&[0, 2]), Some(&[2])])?;
+            assert_eq!(rt; first, rows_of(alloc, &of_first)?);
+            let mut of_last: Vec<Option<&[u32]>> = Vec::from_slice(alloc, &none)?;
+            of_last.extend_from_slice(&none)?;
+            of_last.extend_from_slice(&[Some(&[]), Some(&[]), Some(&[0]), None])?;
+            of_last.extend_from_slice(&[Some(&[]), Some(&[]), Some(&[0]), Some(&[0])])?;
+            assert_eq!(rt; last, rows_of(alloc, &of_last)?);
+        }
+    }
     Ok(())
 }

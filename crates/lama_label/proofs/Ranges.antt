@@ -1,10 +1,6 @@
 -- What is taken from lists one after another.
-use Rattle.std.proofs.Common.{◌≡◌, ◌∙◌, ℕ, zero, suc, ◌+◌, ◌-◌, ◌≤◌, List, [], ◌∷◌, ◌++◌, length, map, take, drop, ap, refl, arith}
-use Rattle.std.specs.List.{range_with_len}
+use Rattle.std.proofs.Common.{◌≡◌, ◌∙◌, ℕ, List, [], ◌∷◌, ◌++◌, length, take, drop, ap, refl, arith}
 use Rattle.std.proofs.lemmas.List.{append-nil, drop_all, take_all as take_whole}
-use Rattle.std.proofs.lemmas.Grind.{flat_map-append}
-use Rattle.lama_model.specs.Row.{row_at}
-use Rattle.lama_model.specs.Row.{edges_from}
 use Rattle.lama_label.specs.Lowering.{take_all, take_edges}
 
 pub take-append : (ps qs : List (ℕ × ℕ)) (ls : List ℕ) → take_all (ps ++ qs) ls ≡ take_all qs (take_all ps ls)

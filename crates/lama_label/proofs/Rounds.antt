@@ -3,7 +3,6 @@ use Rattle.std.proofs.Common.{◌≡◌, ◌∙◌, ℕ, zero, suc, ◌+◌, ◌
 use Rattle.std.specs.Prelude.{All, slice_index}
 use Rattle.std.specs.List.{flat_map}
 use Rattle.std.proofs.lemmas.List.Elements.{All-head, All-tail, All-append, All-map}
-use Rattle.std.proofs.lemmas.List.{append-nil}
 use Rattle.lama_model.specs.Graph.{Graph}
 use Rattle.lama_model.specs.Labels.{AreJoined}
 use Rattle.lama_label.specs.Lowering.{offered, is_lower, take_all, take_edges, AreLow, AreEdgesOf, IsEdgeSettled, AreSettled, IsLowered}
@@ -89,12 +88,6 @@ pub copies-long : {T U : Type 0} (items : T → List ℕ) (edges : U → List (�
 copies-long items edges ls ts us h =
     unmap (λ (l : List ℕ). length l ≡ length ls) items ts (subst (All (λ (l : List ℕ). length l ≡ length ls)) (sym h)
     (All-map (λ (l : List ℕ). length l ≡ length ls) (λ u. take_edges (edges u) ls) us (λ k d lt. length-edges (edges (get_or us k d)) ls)))
-
--- the edges of one piece are all of them
-pub one-piece : {U : Type 0} (edges : U → List (ℕ × ℕ)) (us : List U) (u : U) → length us ≡ 1 → u ≡ get_or us 0 u → flat_map edges us ≡ edges u
-one-piece edges [] u one is = absurd (omega (arith, one))
-one-piece edges (x ∷ []) u one is = append-nil (edges x) ∙ ap edges (sym is)
-one-piece edges (x ∷ y ∷ us) u one is = absurd (omega (arith, one))
 
 pub all-are : {U : Type 0} (edges : U → List (ℕ × ℕ)) (us : List U) → flat_map edges us ≡ all_of (map edges us)
 all-are edges [] = refl

@@ -1,8 +1,6 @@
 -- Labels that are lowered in rounds.
-use Rattle.std.specs.Prelude.{◌≡◌, ℕ, suc, min, ◌<◌, ◌≤◌, nat_lt, Bool, false, List, [], ◌∷◌, All, length, map, sum, if◌then◌else◌, slice_index, slice_set}
-use Rattle.std.specs.List.{flat_map}
+use Rattle.std.specs.Prelude.{◌≡◌, ℕ, suc, min, ◌<◌, ◌≤◌, nat_lt, Bool, false, List, [], ◌∷◌, All, length, sum, if◌then◌else◌, slice_index, slice_set}
 use Rattle.lama_model.specs.Graph.{Graph}
-use Rattle.lama_model.specs.Row.{row_at}
 use Rattle.lama_model.specs.Labels.{AreJoined}
 
 -- the label of the label of a vertex

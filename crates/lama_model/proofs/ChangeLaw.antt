@@ -274,3 +274,21 @@ row_change-source g writes u = refl
 -- the change done on a row of the graph gives the row after the writes
 pub change_law : (g : Graph) (writes : List Write) (count v : ℕ) → v < count → row_after (changed_rows g writes count) v (row g v) ≡ row (graph_after writes g) v
 change_law g writes count v below = row_after-from (row_change g writes) (row_change-source g writes) 0 count v (row g v) (omega arith) (omega arith) ∙ row_done-row g writes v
+
+-- and a row past the count stays
+pub change_law-past : (g : Graph) (writes : List Write) (count v : ℕ) (r : List (ℕ × ℕ)) → count ≤ v → row_after (changed_rows g writes count) v r ≡ r
+change_law-past g writes count v r past = beyond 0 count (omega (arith, past))
+  where
+    f : ℕ → RowChange
+    f = row_change g writes
+
+    beyond : (a n : ℕ) → a + n ≤ v → row_after (some_of f a n) v r ≡ r
+    beyond a zero le = refl
+    beyond a (suc n) le = skip (is_empty_change (f a)) (beyond (a + 1) n (omega (arith, le)))
+      where
+        skip : (e : Bool) → row_after (some_of f (a + 1) n) v r ≡ r → row_after (cond (not e) (f a ∷ some_of f (a + 1) n) (some_of f (a + 1) n)) v r ≡ r
+        skip true rest = rest
+        skip false rest =
+            let is = row_change-source g writes a in
+            let other : eqb (f a).source v ≡ false = grind (arith, nat_tests, is, le) in
+            ap (λ t. cond t (row_done (f a) r) (row_after (some_of f (a + 1) n) v r)) other ∙ rest

@@ -17,3 +17,4 @@ pub mod Joined
 pub mod LabelLaw
 pub mod RankLaw
 pub mod EdgePairs
+pub mod GraphSteps

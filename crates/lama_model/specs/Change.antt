@@ -50,6 +50,10 @@ abbrev pub row_after : List RowChange → ℕ → List (ℕ × ℕ) → List (�
 row_after [] v r = r
 row_after (c ∷ cs) v r = if c.source == v then row_done c r else row_after cs v r
 
+-- the row of the source v after changes, oldest first
+abbrev pub row_through : List Change → ℕ → List (ℕ × ℕ) → List (ℕ × ℕ)
+row_through changes v r = fold (λ r c. row_after c.rows v r) r changes
+
 -- the graph after the change, by its rows
 abbrev pub changed : Graph → Change → Graph
 changed g c = graph_of_rows (map (λ v. row_after c.rows v (row g v)) (range_with_len 0 c.count))

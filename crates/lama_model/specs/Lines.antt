@@ -8,9 +8,9 @@ use Rattle.lama_model.specs.Script.{End}
 use Rattle.lama_model.specs.Script.End.{Whole, BadAt, TooMany}
 use Rattle.lama_model.specs.declared.calls.Write.TheVariants.{Vertices}
 use Rattle.lama_model.specs.declared.commands.Command.{Command}
-use Rattle.lama_model.specs.declared.commands.Command.TheVariants.{Write as Writes, Checkpoint as Checkpoints}
+use Rattle.lama_model.specs.declared.commands.Command.TheVariants.{Write as Writes, Checkpoint as Checkpoints, Retire as Retires}
 use Rattle.lama_model.specs.declared.answers.Reply.{Reply}
-use Rattle.lama_model.specs.declared.answers.Reply.TheVariants.{Count, Snapshot, Refused}
+use Rattle.lama_model.specs.declared.answers.Reply.TheVariants.{Count, Snapshot, Kept, Refused}
 use Rattle.lama_model.specs.declared.answers.Refusal.{Refusal}
 use Rattle.lama_model.specs.declared.answers.Refusal.TheVariants.{UnknownVertex, FullVertices, FullEdges, FullKept, FullNumbers, NoSnapshot}
 
@@ -28,6 +28,7 @@ unfoldable pub reply_line : Command → Reply → List ℕ
 reply_line command (Refused r) = refusal_line r
 reply_line (Writes (Vertices n)) (Count count) = codes "vertices " ++ decimal count ++ codes "\n"
 reply_line Checkpoints (Snapshot number) = codes "snapshot " ++ decimal number ++ codes "\n"
+reply_line (Retires k) (Kept oldest newest) = codes "kept " ++ decimal oldest ++ codes " " ++ decimal newest ++ codes "\n"
 reply_line command reply = []
 
 -- a blank, and the target and the weight of an edge
@@ -37,6 +38,14 @@ pair_text p = codes " " ++ decimal p.0 ++ codes "/" ++ decimal p.1
 -- a row of the snapshot k
 unfoldable pub row_line : ℕ → ℕ → List (ℕ × ℕ) → List ℕ
 row_line k v pairs = codes "row " ++ decimal k ++ codes " " ++ decimal v ++ codes " :" ++ flat_map pair_text pairs ++ codes "\n"
+
+-- a blank and a target
+abbrev pub target_text : ℕ → List ℕ
+target_text t = codes " " ++ decimal t
+
+-- the targets of the row of v in the graph of the number j, as the snapshot k tells them
+unfoldable pub as_of_line : ℕ → ℕ → ℕ → List ℕ → List ℕ
+as_of_line k j v targets = codes "asof " ++ decimal k ++ codes " " ++ decimal j ++ codes " " ++ decimal v ++ codes " :" ++ flat_map target_text targets ++ codes "\n"
 
 -- an edge of the source u: its source, target and weight
 abbrev pub edge_line : ℕ → ℕ × ℕ → List ℕ

@@ -1,8 +1,8 @@
 -- Where a run begins.
-use Rattle.std.specs.Prelude.{ℕ, ◌+◌, ◌-◌, ◌<◌, ◌≤◌, List, [], length, fold, take, slice_index_or}
+use Rattle.std.specs.Prelude.{ℕ, ◌+◌, ◌-◌, ◌<◌, ◌≤◌, All, List, [], length, fold, take, slice_index_or}
 use Rattle.lama_model.specs.Graph.{Graph, IsGraph, no_graph}
 use Rattle.lama_model.specs.Row.{rows_of}
-use Rattle.lama_model.specs.Change.{Change, changed}
+use Rattle.lama_model.specs.Change.{Change, IsChange, changed}
 use Rattle.lama_model.specs.Fits.{Fits}
 
 -- an opening: the floor with its graph, the oldest number that is kept, and one change for each number above the floor
@@ -44,13 +44,14 @@ no_change = record { number = 0; count = 0; rows = [] }
 abbrev pub opening_change : Opening → ℕ → Change
 opening_change o k = slice_index_or o.changes (k - o.floor - 1) no_change
 
--- its numbers are in order and within their limit, its first graph is one within the limits, and each change fits the graph before it and gives a graph
+-- its numbers are in order and within their limit, its first graph is one within the limits, and each change is valid, fits the graph before it and gives a graph
 pub record IsOpening (o : Opening) : Type 0 where
   pub from_floor : o.floor ≤ o.oldest
   pub to_newest : o.oldest ≤ last_number o
   pub number : last_number o ≤ 100000000
   pub vertices : (last_graph o).count ≤ 4194304
   pub edges : length (last_graph o).edges ≤ 33554432
+  pub valid : All IsChange o.changes
   pub fits : (k : ℕ) → o.floor ≤ k → k < last_number o → Fits k (rows_of (opening_graph o k)) (opening_change o (k + 1))
   pub graphs : (k : ℕ) → IsGraph (opening_graph o k)
 

@@ -4,9 +4,9 @@ use Rattle.std.specs.List.{slice_split, list_all}
 use Rattle.std.specs.Option.{option_map, option_and_then}
 use Rattle.lama_model.specs.declared.calls.Write.TheVariants.{Vertices, Add, Remove, Weigh}
 use Rattle.lama_model.specs.declared.commands.Command.{Command}
-use Rattle.lama_model.specs.declared.commands.Command.TheVariants.{Write as Writes, Checkpoint as Checkpoints, Read as Reads}
+use Rattle.lama_model.specs.declared.commands.Command.TheVariants.{Write as Writes, Checkpoint as Checkpoints, Retire as Retires, Read as Reads}
 use Rattle.lama_model.specs.declared.commands.Read.{Read}
-use Rattle.lama_model.specs.declared.commands.Read.TheVariants.{Row, Edges, Degrees, Bfs, Labels, Rank}
+use Rattle.lama_model.specs.declared.commands.Read.TheVariants.{Row, Edges, Degrees, Bfs, Labels, Rank, AsOf}
 
 abbrev pub is_line_feed : ℕ → Bool
 is_line_feed b = b == 10
@@ -93,6 +93,11 @@ abbrev pub checkpoint_command : List (List ℕ) → Option Command
 checkpoint_command [] = Some Checkpoints
 checkpoint_command (more ∷ args) = None
 
+abbrev pub retire_command : List (List ℕ) → Option Command
+retire_command [] = None
+retire_command (k ∷ []) = option_map (λ k. Retires k) (number k)
+retire_command (k ∷ more ∷ args) = None
+
 abbrev pub row_read : List (List ℕ) → Option Read
 row_read [] = None
 row_read (v ∷ []) = option_map (λ v. Row v) (number v)
@@ -135,6 +140,16 @@ abbrev pub rank_read : List (List ℕ) → Option Read
 rank_read [] = None
 rank_read (rounds ∷ args) = rank_of (sum_of args) (number rounds)
 
+-- asof J V, where both are numbers
+abbrev pub as_of_numbers : Option ℕ → Option ℕ → Option Read
+as_of_numbers j v = option_and_then (λ j. option_map (λ v. AsOf j v) v) j
+
+abbrev pub as_of_read : List (List ℕ) → Option Read
+as_of_read [] = None
+as_of_read (j ∷ []) = None
+as_of_read (j ∷ v ∷ []) = as_of_numbers (number j) (number v)
+as_of_read (j ∷ v ∷ more ∷ args) = None
+
 -- what is read by a word and the words after it
 unfoldable pub read_of : List ℕ → List (List ℕ) → Option Read
 read_of word args =
@@ -144,7 +159,8 @@ read_of word args =
     else (if bytes_eq word (codes "labels") then labels_read args
     else (if bytes_eq word (codes "degrees") then degrees_read args
     else (if bytes_eq word (codes "rank") then rank_read args
-    else None)))))
+    else (if bytes_eq word (codes "asof") then as_of_read args
+    else None))))))
 
 -- what stands behind an at sign at the front of a word
 abbrev pub behind_at : List ℕ → Option (List ℕ)
@@ -165,7 +181,8 @@ command_of word args =
     else (if bytes_eq word (codes "del") then del_command args
     else (if bytes_eq word (codes "weigh") then weigh_command args
     else (if bytes_eq word (codes "checkpoint") then checkpoint_command args
-    else reading_of (behind_at word) word args))))
+    else (if bytes_eq word (codes "retire") then retire_command args
+    else reading_of (behind_at word) word args)))))
 
 -- what a line says
 pub data Meaning : Type 0 where

@@ -17,6 +17,8 @@ pub enum Read {
     Labels { sum: bool },
     /// The PageRank of each vertex after so many rounds, or, where `sum` is true, all of it and where it is greatest.
     Rank { rounds: u32, sum: bool },
+    /// The targets of the row of `v` in the graph of the number `j`.
+    AsOf { j: u32, v: u32 },
 }
 
 /// One command of a script.
@@ -24,6 +26,8 @@ pub enum Read {
 pub enum Command {
     Write(Write),
     Checkpoint,
+    /// Lets the snapshots before that of the number `k` go.
+    Retire { k: u32 },
     /// Reads the newest snapshot, or the one of the number `at`.
     Read { at: Option<u32>, what: Read },
 }

@@ -54,6 +54,18 @@ pub fn analyses()
         ≡ codes "vertices 5\nsnapshot 1\ndegrees 1 5 4 2 2\ndegrees 0 0 0 0 0\nrank 0 0 sum 0 - 0\nrank 0 3\nbad line 11\n" }
 {}
 
+/// What is told of earlier graphs, and what a retirement lets go.
+pub fn earlier_graphs()
+    // An edge that was deleted is in the graphs before, and each snapshot tells those up to its own number.
+    ensures as_of { text empty_opening (codes "vertices 3\nadd 0 1\ncheckpoint\nadd 0 2\ncheckpoint\ndel 0 1\ncheckpoint\nasof 2 0\nasof 3 0\nasof 1 0\nasof 0 0\nasof 4 0\nasof 1 3\n@1 asof 2 0\n@2 asof 1 0\n")
+        ≡ codes "vertices 3\nsnapshot 1\nsnapshot 2\nsnapshot 3\nasof 3 2 0 : 2 1\nasof 3 3 0 : 2\nasof 3 1 0 : 1\nasof 3 0 0 :\nno snapshot 4 of 0 3\nunknown vertex 3 of 3\nno snapshot 2 of 0 1\nasof 2 1 0 : 1\nend 15\n" }
+    ensures retired { text empty_opening (codes "checkpoint\ncheckpoint\ncheckpoint\ncheckpoint\nretire 3\n@2 row 0\nretire 9\n")
+        ≡ codes "snapshot 1\nsnapshot 2\nsnapshot 3\nsnapshot 4\nkept 3 4\nno snapshot 2 of 3 4\nno snapshot 9 of 3 4\nend 7\n" }
+    // A vertex that came later has no edges then. A retirement leaves the floor, so older graphs are still told.
+    ensures still_told { text empty_opening (codes "vertices 1\nadd 0 0 4\ncheckpoint\nvertices 1\nadd 0 1\nadd 1 0\ncheckpoint\nretire 2\nasof 1 1\nasof 1 0\nasof 1\n")
+        ≡ codes "vertices 1\nsnapshot 1\nvertices 2\nsnapshot 2\nkept 2 2\nasof 2 1 1 :\nasof 2 1 0 : 0\nbad line 11\n" }
+{}
+
 /// Three snapshots of two vertices: graphs, numbers, floors and prefixes of their journal.
 pub fn journals()
     ensures graphs { map (λ k. row (graph empty_opening busy k) 0) (0 ∷ 1 ∷ 2 ∷ 3 ∷ [])

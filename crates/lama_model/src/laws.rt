@@ -1,14 +1,15 @@
 //! Laws of the definitions alone, for every opening and every journal.
 
-ghost use Rattle.std.specs.Prelude.{◌≡◌, ◌+◌, ◌*◌, ◌<◌, ◌≤◌, ◌++◌, [], ◌∷◌, ℕ, List, length, sum};
+ghost use Rattle.std.specs.Prelude.{◌≡◌, ◌+◌, ◌*◌, ◌<◌, ◌≤◌, ◌++◌, [], ◌∷◌, ℕ, List, length, map, sum};
+ghost use Rattle.std.specs.List.{range_with_len};
 ghost use Rattle.lama_model.specs.Graph.{Graph, IsGraph};
 ghost use Rattle.lama_model.specs.Row.{row, AreSame};
 ghost use Rattle.lama_model.specs.Levels.{AreLevels, levels};
 ghost use Rattle.lama_model.specs.Labels.{AreLabels, AreFirst, labels};
 ghost use Rattle.lama_model.specs.Degrees.{out_degrees};
 ghost use Rattle.lama_model.specs.Ranks.{ranks};
-ghost use Rattle.lama_model.specs.Change.{change_between, graph_after, row_after};
-ghost use Rattle.lama_model.specs.Opening.{Opening, last_number};
+ghost use Rattle.lama_model.specs.Change.{change_between, graph_after, row_after, row_through};
+ghost use Rattle.lama_model.specs.Opening.{Opening, IsOpening, first_number, last_number};
 ghost use Rattle.lama_model.specs.Journal.{begun, standing, newest, oldest, floor_at, graph, change, cut};
 ghost use Rattle.lama_model.specs.Laws.{count_made};
 ghost use Rattle.lama_model.specs.declared.calls.Call.TheVariants.{Install};
@@ -27,6 +28,13 @@ pub fn snapshots_are_prefixes()
 pub fn changes_make_rows()
     ensures { (g : Graph) (writes : List Write) (number v : ℕ) → v < (graph_after writes g).count →
         row_after (change_between g writes number).rows v (row g v) ≡ row (graph_after writes g) v }
+{}
+
+/// The changes from one number to a later one, done one after another on a row of the first graph, give that row of the
+/// second. Before a vertex came its row is empty.
+pub fn changes_lead_to_later_rows()
+    ensures { (o : Opening) (journal : List Entry) (k n v : ℕ) → IsOpening o → first_number o ≤ k → k + n ≤ newest o journal →
+        row_through (map (change o journal) (range_with_len (k + 1) n)) v (row (graph o journal k) v) ≡ row (graph o journal (k + n)) v }
 {}
 
 /// What stands under a number stays, however the journal goes on.

@@ -1,13 +1,15 @@
 -- Totals that were put together from parts are those of the whole.
-use Rattle.std.proofs.Common.{◌≡◌, ◌∙◌, ℕ, zero, suc, ◌+◌, ◌%◌, ◌^◌, ◌<◌, ◌≤◌, List, [], ◌∷◌, ◌++◌, length, map, max, cond, eqb, refl, sym, ap, arith}
-use Rattle.std.specs.Prelude.{◌==◌, All, fold, sum, sum_by, count_by}
+use Rattle.std.proofs.Common.{◌≡◌, ◌∙◌, ℕ, ◌+◌, ◌%◌, ◌^◌, ◌≤◌, List, [], ◌∷◌, ◌++◌, length, map, max, cond, eqb, refl, sym, ap, arith}
+use Rattle.std.specs.Prelude.{◌==◌, fold, sum, sum_by, count_by}
 use Rattle.std.specs.List.{range_with_len}
 use Rattle.std.proofs.lemmas.List.{map-append}
 use Rattle.std.proofs.lemmas.List.FromFn.{length-range_with_len}
+use Rattle.std.proofs.lemmas.List.Folds.{fold-map}
+use Rattle.std.proofs.lemmas.Simd.{map-map}
 use Rattle.std.proofs.lemmas.List.Sums.{fold-append, sum_by-cons, sum_by-append, sum_by_push, sum-map, count_by-le-length}
-use Rattle.lama_model.specs.Row.{row_at, edges_in, graph_of_rows, AreTargetsBelow, AreRowsOf}
+use Rattle.lama_model.specs.Row.{row_at, edges_in, graph_of_rows, AreTargetsBelow}
 use Rattle.lama_model.specs.Lines.{greatest}
-use Rattle.lama_model.specs.Degrees.{out_degree, out_degrees, count_sinks}
+use Rattle.lama_model.specs.Degrees.{out_degrees, count_sinks}
 use Rattle.lama_model.proofs.Counting.{edges-counted}
 use Rattle.lama_model.proofs.RowsOfGraph.{row-of-rows}
 use Rattle.lama_model.proofs.RankLaw.{sources, edges-added}
@@ -69,12 +71,7 @@ more-summed xs a x r h is = record {
 }
 
 sum-mapped : {X Y : Type 0} (f : Y → ℕ) (h : X → Y) (xs : List X) → sum_by f (map h xs) ≡ sum_by (λ x. f (h x)) xs
-sum-mapped f h [] = refl
-sum-mapped f h (x ∷ xs) = sum_by-cons f (h x) (map h xs) ∙ (ap (λ n. f (h x) + n) (sum-mapped f h xs) ∙ sym (sum_by-cons (λ x. f (h x)) x xs))
-
-map-mapped : {X Y : Type 0} (f : Y → ℕ) (h : X → Y) (xs : List X) → map f (map h xs) ≡ map (λ x. f (h x)) xs
-map-mapped f h [] = refl
-map-mapped f h (x ∷ xs) = ap (λ l. f (h x) ∷ l) (map-mapped f h xs)
+sum-mapped f h xs = fold-map (λ n y. n + f y) h 0 xs
 
 ones : (us : List ℕ) → sum_by (λ (u : ℕ). 1) us ≡ length us
 ones [] = refl
@@ -105,7 +102,7 @@ module _ (rows : List (List (ℕ × ℕ))) (below : AreTargetsBelow (length rows
       omega (arith, n, whole, counted, is, edges)
 
   pub greatest-is : r.greatest ≡ greatest (out_degrees (graph_of_rows rows))
-  greatest-is = h.greatest_is ∙ ap greatest (map-mapped (λ (t : Totals). t.greatest) (λ v. of_one (length (row_at rows v))) us ∙ sym degrees-of)
+  greatest-is = h.greatest_is ∙ ap greatest (map-map (λ (t : Totals). t.greatest) (λ v. of_one (length (row_at rows v))) us ∙ sym degrees-of)
 
   pub sinks-are : r.sinks ≡ count_sinks (graph_of_rows rows)
   sinks-are =

@@ -1,7 +1,8 @@
 -- Shares and ranks that are found round by round are those of the graph.
-use Rattle.std.proofs.Common.{◌≡◌, ◌∙◌, ℕ, zero, suc, ◌+◌, ◌*◌, ◌/◌, ◌<◌, ◌≤◌, List, [], ◌∷◌, ◌++◌, length, get_or, map, replicate, reverse, Bool, true, false, refl, sym, ap, subst, arith}
+use Rattle.std.proofs.Common.{◌≡◌, ◌∙◌, ℕ, zero, suc, ◌+◌, ◌*◌, ◌/◌, ◌<◌, ◌≤◌, List, [], ◌∷◌, length, map, replicate, reverse, true, false, refl, sym, ap, subst, arith}
 use Rattle.std.specs.Prelude.{◌==◌, All, filter, sum_by, count_by, slice_index}
 use Rattle.std.specs.List.{range_with_len}
+use Rattle.std.proofs.lemmas.Simd.{map-map}
 use Rattle.std.proofs.lemmas.List.{length-map, length-replicate, get_or-map, get_or-replicate}
 use Rattle.std.proofs.lemmas.List.Elements.{All-nil, All-head, All-tail, All-append, All-map, All-push}
 use Rattle.std.proofs.lemmas.List.Sums.{sum_by-cons}
@@ -65,11 +66,7 @@ degree-at rows v lt = get_or-map-range_with_len (λ v. out_degree v (graph_of_ro
 
 pub first-shares : (rows : List (List (ℕ × ℕ))) → map (λ d. share d 1000000) (out_degrees (graph_of_rows rows)) ≡ shares_at rows 0
 unfolding out_degrees
-first-shares rows = map-map-again (λ d. share d 1000000) (λ v. out_degree v (graph_of_rows rows).edges) (range_with_len 0 (length rows))
-  where
-    map-map-again : (f h : ℕ → ℕ) (us : List ℕ) → map f (map h us) ≡ map (λ u. f (h u)) us
-    map-map-again f h [] = refl
-    map-map-again f h (u ∷ us) = ap (λ l. f (h u) ∷ l) (map-map-again f h us)
+first-shares rows = map-map (λ d. share d 1000000) (λ v. out_degree v (graph_of_rows rows).edges) (range_with_len 0 (length rows))
 
 module _ (rows : List (List (ℕ × ℕ))) (below : AreTargetsBelow (length rows) rows) where
   abbrev g : Graph

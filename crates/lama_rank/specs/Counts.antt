@@ -1,5 +1,5 @@
 -- Totals of out-degrees, counted in parts.
-use Rattle.std.specs.Prelude.{◌≡◌, ℕ, ◌+◌, ◌%◌, ◌^◌, ◌==◌, max, List, if◌then◌else◌}
+use Rattle.std.specs.Prelude.{ℕ, ◌+◌, ◌%◌, ◌^◌, ◌==◌, max, if◌then◌else◌}
 use Rattle.lama_rank.specs.declared.degree_totals.Totals.{Totals}
 
 -- the totals of one vertex of this out-degree

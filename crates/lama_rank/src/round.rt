@@ -75,7 +75,7 @@ fn round_of_piece(
     Ok(sums)
 }
 
-// What a round leaves of all vertices, in a piece for each of the lists.
+// What a round leaves of all vertices, in a piece for each of the lists. The rows are there for the contract alone.
 pub(crate) fn round<T: Threads + Sync, R: Rows, G: Gate + Sync>(
     rt: &T,
     alloc: Global,

@@ -5,7 +5,7 @@ ghost use Rattle.lama_model.specs.Lines.{number_text, vertex_lines, levels_text,
 ghost use Rattle.lama_model.specs.Labels.{AreFirst};
 ghost use Rattle.lama_script.specs.Totals.{AreTotals};
 
-use crate::printers::{append_named, append_number, append_text};
+use crate::printers::{append_named, append_number, append_text, append_vertex};
 use std::alloc::{AllocError, Global};
 
 /// Appends the levels from the vertex `s` in snapshot `k`: a line for each vertex, or, where `sum` is true, one line with
@@ -178,17 +178,9 @@ fn append_label_lines(out: &mut Vec<u8>, labels: &[u32]) -> Result<(), AllocErro
     ensures begins { take (vec_len out.old) out.new.items ≡ out.old.items }
 {
     for v in 0..labels.len() {
-        append_label(out, v as u64, labels[v])?;
+        append_vertex(out, v as u64, u64::from(labels[v]))?;
     }
     Ok(())
-}
-
-fn append_label(out: &mut Vec<u8>, v: u64, label: u32) -> Result<(), AllocError>
-    ensures ok { OnOk result (out.new.items ≡ out.old.items ++ (decimal v ++ codes " " ++ decimal label ++ codes "\n")) }
-    ensures begins { take (vec_len out.old) out.new.items ≡ out.old.items }
-{
-    append_number(out, b"", v)?;
-    append_named(out, b" ", u64::from(label))
 }
 
 fn append_label_sum(

@@ -2,7 +2,7 @@
 
 ghost use Rattle.std.specs.Prelude.{◌≡◌, ◌<◌, ◌^◌, [], ◌∷◌, ⊤, not, true, MatchOption, None, Some, IsTrue, ◌↔◌};
 ghost use Rattle.std.specs.List.{position};
-ghost use Rattle.lama_model.specs.Script.{words, number, vertices_command, add_command, del_command, weigh_command, checkpoint_command, row_read, edges_read, degrees_read, sum_of, bfs_read, labels_read, rank_read, read_of, behind_at, reading_of, command_of, meaning, without_return};
+ghost use Rattle.lama_model.specs.Script.{words, number, vertices_command, add_command, del_command, weigh_command, checkpoint_command, retire_command, row_read, edges_read, degrees_read, sum_of, bfs_read, labels_read, rank_read, as_of_read, read_of, behind_at, reading_of, command_of, meaning, without_return};
 ghost use Rattle.lama_model.specs.Script as grammar;
 ghost use Rattle.lama_script.specs.Numbers.{IsFirstNumber, IsLeading};
 ghost use Rattle.lama_script.specs.Parsing.{answer_to};
@@ -171,6 +171,8 @@ fn command(word: &[u8], args: &[u8]) -> Option<Command>
         weigh(args)
     } else if word == b"checkpoint".as_slice() {
         checkpoint(args)
+    } else if word == b"retire".as_slice() {
+        retire(args)
     } else {
         reading(word, args)
     }
@@ -217,6 +219,8 @@ fn read(word: &[u8], args: &[u8]) -> Option<Read>
         degrees(args)
     } else if word == b"rank".as_slice() {
         rank(args)
+    } else if word == b"asof".as_slice() {
+        as_of(args)
     } else {
         None
     }
@@ -281,6 +285,16 @@ fn checkpoint(args: &[u8]) -> Option<Command>
     is_end(args).then_some(Command::Checkpoint)
 }
 
+fn retire(args: &[u8]) -> Option<Command>
+    ensures { result ≡ retire_command (words args.now) }
+{
+    let (number, rest) = first_number(args)?;
+    if !is_end(rest) {
+        return None;
+    }
+    Some(Command::Retire { k: number? })
+}
+
 fn row(args: &[u8]) -> Option<Read>
     ensures { result ≡ row_read (words args.now) }
 {
@@ -335,4 +349,18 @@ fn rank(args: &[u8]) -> Option<Read>
     let sum = sum(args)?;
     let rounds = rounds?;
     (rounds <= MAX_ROUNDS).then_some(Read::Rank { rounds, sum })
+}
+
+fn as_of(args: &[u8]) -> Option<Read>
+    ensures { result ≡ as_of_read (words args.now) }
+{
+    let (number, args) = first_number(args)?;
+    let (vertex, rest) = first_number(args)?;
+    if !is_end(rest) {
+        return None;
+    }
+    Some(Read::AsOf {
+        j: number?,
+        v: vertex?,
+    })
 }

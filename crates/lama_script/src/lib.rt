@@ -15,5 +15,5 @@ pub use grammar::number;
 pub use item::{Item, ScriptFault};
 pub use lama_model::{Command, Read};
 pub use parser::Parser;
-pub use printers::{print_edges, print_numbered, print_reply, print_row};
+pub use printers::{print_asof, print_edges, print_numbered, print_reply, print_row};
 pub use ranks::{print_degrees, print_rank};

@@ -2,7 +2,7 @@
 
 ghost use Rattle.std.specs.Prelude.{◌≡◌, ◌<◌, ◌++◌, take, length, codes, decimal, vec_len, OnOk, OnErr};
 ghost use Rattle.std.specs.List.{flat_map};
-ghost use Rattle.lama_model.specs.Lines.{reply_line, refusal_line, row_line, pair_text, edges_lines, edge_lines, edge_line};
+ghost use Rattle.lama_model.specs.Lines.{reply_line, refusal_line, row_line, pair_text, as_of_line, target_text, edges_lines, edge_lines, edge_line};
 ghost use Rattle.lama_model.specs.Row.{row_at, edges_in};
 
 use itoa::Buffer;
@@ -32,6 +32,26 @@ pub fn print_row<R: Rows>(out: &mut Vec<u8>, k: u32, rows: &R, v: u32) -> Result
 {
     let before = out.len();
     let printed = append_row(out, k, rows, v);
+    if printed.is_err() {
+        out.truncate(before);
+    }
+    printed
+}
+
+/// Appends the line of the targets that the row of the vertex `v` has in the graph of the number `j`, as snapshot `k` tells
+/// them, newest first. Linear in them. Without memory the output stays as it was.
+pub fn print_asof(
+    out: &mut Vec<u8>,
+    k: u32,
+    j: u32,
+    v: u32,
+    targets: &[u32],
+) -> Result<(), AllocError>
+    ensures ok { OnOk result (out.new.items ≡ out.old.items ++ as_of_line k j v targets.now) }
+    ensures err { OnErr result (out.new.items ≡ out.old.items) }
+{
+    let before = out.len();
+    let printed = append_asof(out, k, j, v, targets);
     if printed.is_err() {
         out.truncate(before);
     }
@@ -85,8 +105,19 @@ fn append_reply(out: &mut Vec<u8>, command: &Command, reply: &Reply) -> Result<(
             b"snapshot ",
             u64::from(*number),
         ),
+        (Command::Retire { .. }, Reply::Kept { oldest, newest }) => append_kept(
+            out, *oldest, *newest,
+        ),
         _ => Ok(()),
     }
+}
+
+fn append_kept(out: &mut Vec<u8>, oldest: u32, newest: u32) -> Result<(), AllocError>
+    ensures ok { OnOk result (out.new.items ≡ out.old.items ++ (codes "kept " ++ decimal oldest ++ codes " " ++ decimal newest ++ codes "\n")) }
+    ensures begins { take (vec_len out.old) out.new.items ≡ out.old.items }
+{
+    append_number(out, b"kept ", u64::from(oldest))?;
+    append_named(out, b" ", u64::from(newest))
 }
 
 fn append_refusal(out: &mut Vec<u8>, refusal: &Refusal) -> Result<(), AllocError>
@@ -152,6 +183,15 @@ pub(crate) fn append_named(out: &mut Vec<u8>, text: &[u8], number: u64) -> Resul
     append_text(out, b"\n")
 }
 
+/// A vertex and what it has, which end a line.
+pub(crate) fn append_vertex(out: &mut Vec<u8>, v: u64, number: u64) -> Result<(), AllocError>
+    ensures ok { OnOk result (out.new.items ≡ out.old.items ++ (decimal v ++ codes " " ++ decimal number ++ codes "\n")) }
+    ensures begins { take (vec_len out.old) out.new.items ≡ out.old.items }
+{
+    append_number(out, b"", v)?;
+    append_named(out, b" ", number)
+}
+
 #[tactic(auto, unfolding(lama_model::specs::Lines::row_line))]
 fn append_row<R: Rows>(out: &mut Vec<u8>, k: u32, rows: &R, v: u32) -> Result<(), AllocError>
     requires { v < length (R.rows rows.now) }
@@ -176,6 +216,30 @@ fn append_pairs<R: Rows>(out: &mut Vec<u8>, rows: &R, start: R::At) -> Result<()
         append_number(out, b" ", u64::from(target))?;
         append_number(out, b"/", weight)?;
         at = rest;
+    }
+    Ok(())
+}
+
+#[tactic(auto, unfolding(lama_model::specs::Lines::as_of_line))]
+fn append_asof(out: &mut Vec<u8>, k: u32, j: u32, v: u32, targets: &[u32]) -> Result<(), AllocError>
+    ensures ok { OnOk result (out.new.items ≡ out.old.items ++ as_of_line k j v targets.now) }
+    ensures begins { take (vec_len out.old) out.new.items ≡ out.old.items }
+{
+    append_number(out, b"asof ", u64::from(k))?;
+    append_number(out, b" ", u64::from(j))?;
+    append_number(out, b" ", u64::from(v))?;
+    append_text(out, b" :")?;
+    append_targets(out, targets)?;
+    append_text(out, b"\n")
+}
+
+/// The targets. Linear in them.
+fn append_targets(out: &mut Vec<u8>, targets: &[u32]) -> Result<(), AllocError>
+    ensures ok { OnOk result (out.new.items ≡ out.old.items ++ flat_map target_text targets.now) }
+    ensures begins { take (vec_len out.old) out.new.items ≡ out.old.items }
+{
+    for i in 0..targets.len() {
+        append_number(out, b" ", u64::from(targets[i]))?;
     }
     Ok(())
 }

@@ -4,7 +4,7 @@ ghost use Rattle.std.specs.Prelude.{◌≡◌, ◌≤◌, ◌==◌, ◌++◌, su
 ghost use Rattle.lama_model.specs.Levels.{first_from};
 ghost use Rattle.lama_model.specs.Lines.{vertex_lines, number_text, greatest, first_greatest, degrees_line, ranks_text};
 
-use crate::printers::{append_named, append_number, append_text};
+use crate::printers::{append_named, append_number, append_text, append_vertex};
 use itoa::Buffer;
 use lama_rank::Totals;
 use std::alloc::AllocError;
@@ -78,17 +78,9 @@ fn append_rank_lines(out: &mut Vec<u8>, ranks: &[u64]) -> Result<(), AllocError>
     ensures begins { take (vec_len out.old) out.new.items ≡ out.old.items }
 {
     for v in 0..ranks.len() {
-        append_rank(out, v as u64, ranks[v])?;
+        append_vertex(out, v as u64, ranks[v])?;
     }
     Ok(())
-}
-
-fn append_rank(out: &mut Vec<u8>, v: u64, rank: u64) -> Result<(), AllocError>
-    ensures ok { OnOk result (out.new.items ≡ out.old.items ++ (decimal v ++ codes " " ++ decimal rank ++ codes "\n")) }
-    ensures begins { take (vec_len out.old) out.new.items ≡ out.old.items }
-{
-    append_number(out, b"", v)?;
-    append_named(out, b" ", rank)
 }
 
 #[tactic(auto, unfolding(lama_model::specs::Lines::ranks_text))]

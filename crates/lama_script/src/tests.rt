@@ -5,7 +5,7 @@ ghost use Rattle.std.specs.Prelude.{◌≤◌, [], ◌∷◌, drop};
 use crate::analyses::{print_labels, print_levels};
 use crate::item::{Item, ScriptFault};
 use crate::parser::Parser;
-use crate::printers::{print_edges, print_reply, print_row};
+use crate::printers::{print_asof, print_edges, print_reply, print_row};
 use crate::ranks::{print_degrees, print_rank};
 use lama_model::{Command, Read, Refusal, Reply, Rows, Write};
 use lama_rank::Totals;
@@ -129,6 +129,45 @@ fn ranks_are_asked_for_after_at_most_a_hundred_rounds(rt: HostRuntime) {
     assert_eq!(rt; answer(b"degrees sum"), BAD);
     assert_eq!(rt; answer(b"degrees 0"), BAD);
     assert_eq!(rt; answer(b"degree"), BAD);
+}
+
+fn retire(k: u32) -> Answer {
+    says(Command::Retire { k })
+}
+
+fn as_of(at: Option<u32>, j: u32, v: u32) -> Answer {
+    says(Command::Read {
+        at,
+        what: Read::AsOf { j, v },
+    })
+}
+
+#[test]
+fn retirements_name_a_snapshot(rt: HostRuntime) {
+    assert_eq!(rt; answer(b"retire 3"), retire(3));
+    assert_eq!(rt; answer(b"\tretire  0003 \r"), retire(3));
+    assert_eq!(rt; answer(b"retire 4294967295"), retire(4_294_967_295));
+    assert_eq!(rt; answer(b"retire 4294967296"), BAD);
+    assert_eq!(rt; answer(b"retire"), BAD);
+    assert_eq!(rt; answer(b"retire 3 4"), BAD);
+    assert_eq!(rt; answer(b"retire sum"), BAD);
+    assert_eq!(rt; answer(b"@7 retire 3"), BAD);
+    assert_eq!(rt; answer(b"retired 3"), BAD);
+}
+
+#[test]
+fn earlier_rows_name_a_number_and_a_vertex(rt: HostRuntime) {
+    assert_eq!(rt; answer(b"asof 3 5"), as_of(None, 3, 5));
+    assert_eq!(rt; answer(b" asof\t03  05 "), as_of(None, 3, 5));
+    assert_eq!(rt; answer(b"@7 asof 3 5"), as_of(Some(7), 3, 5));
+    assert_eq!(rt; answer(b"asof 4294967295 0"), as_of(None, 4_294_967_295, 0));
+    assert_eq!(rt; answer(b"asof 4294967296 0"), BAD);
+    assert_eq!(rt; answer(b"asof 0 4294967296"), BAD);
+    assert_eq!(rt; answer(b"asof"), BAD);
+    assert_eq!(rt; answer(b"asof 3"), BAD);
+    assert_eq!(rt; answer(b"asof 3 5 sum"), BAD);
+    assert_eq!(rt; answer(b"asof 3 x"), BAD);
+    assert_eq!(rt; answer(b"as of 3 5"), BAD);
 }
 
 #[test]
@@ -317,6 +356,44 @@ fn rows_print_newest_first(rt: HostRuntime) -> Result<(), AllocError> {
     assert_eq!(rt;
         out.as_slice(),
         b"row 1 0 : 2/1 1/1\nrow 10 2 :\n".as_slice()
+    );
+    Ok(())
+}
+
+#[test]
+fn earlier_targets_print_newest_first(rt: HostRuntime) -> Result<(), AllocError> {
+    let mut out = Vec::new(rt.alloc());
+    print_asof(&mut out, 3, 2, 0, &[2, 1, 2])?;
+    print_asof(&mut out, 30, 0, 4_194_303, &[])?;
+    assert_eq!(rt;
+        out.as_slice(),
+        b"asof 3 2 0 : 2 1 2\nasof 30 0 4194303 :\n".as_slice()
+    );
+    Ok(())
+}
+
+#[test]
+fn a_retirement_prints_what_is_kept(rt: HostRuntime) -> Result<(), AllocError> {
+    let mut out = Vec::new(rt.alloc());
+    let kept = Reply::Kept {
+        oldest: 3,
+        newest: 12,
+    };
+    let missing = Refusal::NoSnapshot {
+        asked: 9,
+        oldest: 3,
+        newest: 4,
+    };
+    print_reply(&mut out, &Command::Retire { k: 3 }, &kept)?;
+    print_reply(
+        &mut out,
+        &Command::Retire { k: 9 },
+        &Reply::Refused(missing),
+    )?;
+    print_reply(&mut out, &Command::Checkpoint, &kept)?;
+    assert_eq!(rt;
+        out.as_slice(),
+        b"kept 3 12\nno snapshot 9 of 3 4\n".as_slice()
     );
     Ok(())
 }

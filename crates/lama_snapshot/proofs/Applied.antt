@@ -1,5 +1,5 @@
 -- The cells of a snapshot's rows after a change.
-use Rattle.std.proofs.Common.{◌≡◌, ◌≢◌, ◌∙◌, ℕ, zero, suc, ◌+◌, ◌-◌, ◌≤◌, List, [], ◌∷◌, ◌++◌, length, get_or, refl, sym, ap, subst, arith, inl, inr, ◌⊎◌, true, false, cond, eqb, leb, Option, Some, None}
+use Rattle.std.proofs.Common.{◌≡◌, ◌≢◌, ◌∙◌, ℕ, zero, suc, ◌+◌, ◌-◌, ◌<◌, ◌≤◌, List, [], ◌∷◌, ◌++◌, length, get_or, refl, sym, ap, subst, arith, inl, inr, ◌⊎◌, true, false, cond, eqb, leb, Option, Some, None}
 use Rattle.std.proofs.lemmas.Bool.{cases_eq}
 use Rattle.std.proofs.lemmas.Bool.Decides.{nat_tests}
 use Rattle.std.proofs.lemmas.List.{append_assoc, length-append, length_push, get_or_append_left, get_or_push}
@@ -16,6 +16,8 @@ use Rattle.lama_snapshot.specs.Written.{next_of, level_slots, level_weights, lev
 use Rattle.lama_snapshot.proofs.RowFrom.{length-fragment, length-fragment_weights}
 use Rattle.lama_snapshot.proofs.CellsFrom.{cells_from-at, owned-row, owned-append, owned-old, apart-row, table-new, length-fragment_sources}
 use Rattle.lama_snapshot.proofs.ChainLemmas.{chain-at, chain-levels}
+use Rattle.lama_snapshot.specs.History.{targets_then}
+use Rattle.lama_snapshot.proofs.Earlier.{then-new}
 use Rattle.lama_snapshot.proofs.Surviving.{added_for, killed_for, fresh}
 
 -- a level more, above those that a chain looks at
@@ -76,6 +78,7 @@ pub record LeadsNew (l : Layout) (cols : Columns) (v n : ℕ) (old rec : VertexR
   pub own : AreOwned l v row
   pub apart : AreApart row
   pub seen : visible cols row ≡ added_for rows v ++ visible cols before
+  pub older : (k : ℕ) → k - l.floor < length l.levels → targets_then l.floor cols k row ≡ targets_then l.floor cols k before
 
 pub leads-after : (base : Numbered) (levels : List Table) (t : Table) (cols cols' : Columns) (v n : ℕ) (before : List VertexRec) (row : List (ℕ × Cell)) (rows : List RowChange) (pre : List Slot) (pre' pre'' : List ℕ) →
     n ≡ base.number + length levels + 1 → t.slots ≡ pre ++ level_slots before rows → t.sources ≡ pre' ++ level_sources rows → get_or cols'.weights (length levels + 1) [] ≡ pre'' ++ level_weights rows → length pre' ≡ length pre → length pre'' ≡ length pre →
@@ -90,6 +93,7 @@ leads-after base levels t cols cols' v n before row [] pre pre' pre'' is slots s
   own = owned-old base levels t v row h.own;
   apart = h.apart;
   seen = refl;
+  older = λ k lt. refl;
 }
 leads-after base levels t cols cols' v n before row (c ∷ rows) pre pre' pre'' is slots sources weights same same' stand h =
     by (cases_eq c.source v)
@@ -128,6 +132,7 @@ leads-after base levels t cols cols' v n before row (c ∷ rows) pre pre' pre'' 
           own = owned-append l' v (cell_row r (length pre) c.added) row (owned-row l' r v (length pre) c.added pre' (level_sources rows) (table ∙ sources') same) (owned-old base levels t v row h.own);
           apart = apart-row (layout_of base levels) v r (length pre) c.added row h.own h.apart (omega arith);
           seen = fresh cols' r (length pre) c.added pre'' (level_weights rows) same' weights stand row ∙ ap (λ xs. xs ++ visible cols' row) (sym added);
+          older = λ k lt. let many = length_push levels t in then-new base.number cols' k r (length pre) c.added row (omega (arith, lt, many));
         }
     by (inr ne) rest =
         let other : eqb c.source v ≡ false = grind (arith, nat_tests, ne) in
@@ -147,4 +152,5 @@ leads-after base levels t cols cols' v n before row (c ∷ rows) pre pre' pre'' 
           own = rest.own;
           apart = rest.apart;
           seen = rest.seen ∙ ap (λ xs. xs ++ visible cols' row) (sym added);
+          older = rest.older;
         }

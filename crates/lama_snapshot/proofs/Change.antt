@@ -1,11 +1,10 @@
 -- The rows of a snapshot after a change.
 use Rattle.std.proofs.Common.{◌≡◌, ◌≢◌, ◌∙◌, ℕ, ◌+◌, ◌-◌, ◌<◌, ◌≤◌, List, [], ◌∷◌, ◌++◌, length, get_or, map, refl, sym, ap, subst, arith, inl, inr, ◌⊎◌, true, false, cond, eqb}
 use Rattle.std.specs.Prelude.{unwrap_or, All, flat_map}
-use Rattle.std.specs.Arc.{arc_value}
 use Rattle.std.specs.List.{AllByRecursion}
 use Rattle.std.proofs.lemmas.Bool.{cases_lt, cases_eq}
 use Rattle.std.proofs.lemmas.Bool.Decides.{nat_tests}
-use Rattle.std.proofs.lemmas.List.{map-append, length-append, length_push, get_or_past}
+use Rattle.std.proofs.lemmas.List.{length-append, length_push, get_or_past}
 use Rattle.std.proofs.lemmas.List.Elements.{All-head, All-tail, All-push, All-nil, All-get_or, All-from_get_or, recursion_from_All}
 use Rattle.std.proofs.lemmas.List.Sums.{sum_by-cons}
 use Rattle.lama_edges.specs.declared.records.VertexRec.{VertexRec}
@@ -18,21 +17,17 @@ use Rattle.lama_snapshot.specs.declared.level.Cell.{Cell}
 use Rattle.lama_snapshot.specs.BaseRows.{Numbered}
 use Rattle.lama_snapshot.specs.Cells.{Columns, standing, visible, AreApart}
 use Rattle.lama_snapshot.specs.Chains.{Table, Layout, fragment_sources, cells_of, rows_from, AreOwned}
-use Rattle.lama_snapshot.specs.Snap.{Snap, no_record, layout_of, IsSnap, IsTable}
-use Rattle.lama_snapshot.specs.Levels.{table_of}
-use Rattle.lama_snapshot.specs.NewLevel.{IsNewLevel}
-use Rattle.lama_snapshot.specs.declared.level.Level.{Level}
-use Rattle.lama_snapshot.specs.declared.apply.NewLevel.{NewLevel}
+use Rattle.lama_snapshot.specs.Snap.{no_record, layout_of, IsSnap, IsTable}
 use Rattle.lama_snapshot.specs.Written.{IsWritten, level_sources, slots_of}
 use Rattle.lama_snapshot.proofs.CellsFrom.{length-fragment_sources}
-use Rattle.lama_snapshot.proofs.ChainLemmas.{cells_of-at, length-rows_from, row-visible}
+use Rattle.lama_snapshot.specs.History.{targets_then}
+use Rattle.lama_snapshot.proofs.ChainLemmas.{length-cells_of, cells_of-at, length-rows_from, row-visible}
 use Rattle.lama_snapshot.proofs.Limits.{edges-records}
 use Rattle.lama_snapshot.proofs.Standing.{owned-standing, apart-standing, slots_at, values_at}
 use Rattle.lama_snapshot.proofs.Surviving.{added_for, killed_for, set_for, row_after-for, length-surviving, old-visible, found-rows, value-rows}
 use Rattle.lama_snapshot.proofs.Walks.{length-visible}
 use Rattle.lama_snapshot.proofs.Applied.{LeadsNew, leads-after}
 use Rattle.lama_snapshot.proofs.Known.{row-owned}
-use Rattle.lama_snapshot.proofs.WriteLemmas.{written-slots}
 use Rattle.lama_snapshot.proofs.SnapAfter.{grown, length-grown, degrees-grown, leads-before, targets-after, AreAfter, columns-after, mark-after, weight-after, new-marks, new-weights}
 
 -- the edges that stand in the row of each vertex
@@ -55,7 +50,7 @@ pairs-up-to : (m n : ℕ) (ps : List (ℕ × ℕ)) → m ≡ n → AllByRecursio
 pairs-up-to m n [] is h = tt
 pairs-up-to m n (p ∷ ps) is h = ((let a = h.0 in omega (arith, a, is)), pairs-up-to m n ps is h.1)
 
-kills-below : (cols : Columns) (cells : List (List (ℕ × Cell))) (rows : List RowChange) → All (HasIndexes (map (visible cols) cells)) rows → AllByRecursion (λ (r : RowChange). AllByRecursion (λ k. k < length (stands_of cols cells r.source)) r.killed) rows
+pub kills-below : (cols : Columns) (cells : List (List (ℕ × Cell))) (rows : List RowChange) → All (HasIndexes (map (visible cols) cells)) rows → AllByRecursion (λ (r : RowChange). AllByRecursion (λ k. k < length (stands_of cols cells r.source)) r.killed) rows
 kills-below cols cells [] ok = tt
 kills-below cols cells (c ∷ rows) ok = (
   up-to (length (row_at (map (visible cols) cells) c.source)) (length (stands_of cols cells c.source)) c.killed (ap length (row-visible cols cells c.source) ∙ length-visible cols (get_or cells c.source []))
@@ -108,6 +103,7 @@ pub record IsAfter (n e e' : ℕ) (records : List VertexRec) (base : Numbered) (
   pub count : length (rows_from (layout_of base (levels ++ t ∷ [])) cols' new) ≡ c.count
   pub rows : (v : ℕ) → v < c.count → row_at (rows_from (layout_of base (levels ++ t ∷ [])) cols' new) v ≡ row_after c.rows v (row_at (rows_from (layout_of base levels) cols records) v)
   pub whole : e' + killed_edges c ≡ e + added_edges c
+  pub older : (v k : ℕ) → k - base.number < length levels + 1 → targets_then base.number cols' k (get_or (cells_of (layout_of base (levels ++ t ∷ [])) new) v []) ≡ targets_then base.number cols' k (get_or (cells_of (layout_of base levels) records) v [])
 
 pub snap-after : (n e : ℕ) (records : List VertexRec) (base : Numbered) (levels : List Table) (cols : Columns) → IsSnap n e records base levels cols → (c : Change) → IsChange c → Fits n (rows_from (layout_of base levels) cols records) c →
     (t : Table) → IsTable t → t.sources ≡ level_sources c.rows → (weights : List ℕ) → length t.slots ≡ length weights → (new : List VertexRec) → IsWritten c.number (grown records c.count) c.rows t.slots weights new →
@@ -184,8 +180,19 @@ snap-after n e records base levels cols h c valid fits t table sources weights w
       count = omega (arith, len', many);
       rows = row;
       whole = omega (arith, sums, before, counted, e'-is);
+      older = λ v k lt. past v (leads v) k (omega (arith, lt, more)) many le (cases_lt v c.count);
     }
   where
+    past : (v : ℕ) → ((v < c.count) → LeadsNew (layout_of base (levels ++ t ∷ [])) cols' v c.number (get_or (grown records c.count) v no_record) (get_or new v no_record) (get_or (cells_of (layout_of base levels) records) v []) c.rows) →
+        (k : ℕ) → k - base.number < length (levels ++ t ∷ []) → length new ≡ c.count → length records ≤ c.count → (v < c.count) ⊎ (c.count ≤ v) →
+        targets_then base.number cols' k (get_or (cells_of (layout_of base (levels ++ t ∷ [])) new) v []) ≡ targets_then base.number cols' k (get_or (cells_of (layout_of base levels) records) v [])
+    past v leads k lt many le (inl b) =
+        ap (targets_then base.number cols' k) (cells_of-at (layout_of base (levels ++ t ∷ [])) new v (omega (arith, many, b)) ∙ ap (λ o. unwrap_or o []) (leads b).leads) ∙ (leads b).older k lt
+    past v leads k lt many le (inr ge) =
+        let m = length-cells_of (layout_of base (levels ++ t ∷ [])) new in
+        let m' = length-cells_of (layout_of base levels) records in
+        ap (targets_then base.number cols' k) (get_or_past (cells_of (layout_of base (levels ++ t ∷ [])) new) v [] (omega (arith, m, many, ge)) ∙ sym (get_or_past (cells_of (layout_of base levels) records) v [] (omega (arith, m', le, ge))))
+
     l : Layout
     l = layout_of base levels
 
@@ -226,38 +233,3 @@ length-level_sources (c ∷ rows) =
     let d = length-level_sources rows in
     let f = sum_by-cons (λ (c : RowChange). length c.added + 1) c rows in
     omega (arith, a, b, d, f)
-
--- the fields that a change makes stand for a snapshot with the rows after it
-pub record IsApplied (self : Snap) (c : Change) (e n e' : ℕ) (records : List VertexRec) (base : Numbered) (levels : List Table) (cols : Columns) : Type 0 where
-  pub snap : IsSnap n e' records base levels cols
-  pub count : length (rows_from (layout_of base levels) cols records) ≡ c.count
-  pub rows : (v : ℕ) → v < c.count → row_at (rows_from (layout_of base levels) cols records) v ≡ row_after c.rows v (row_at self.rows v)
-  pub whole : e' + killed_edges c ≡ e + added_edges c
-
-pub applied : (n e : ℕ) (records : List VertexRec) (base : Numbered) (levels : List Level) (cols : Columns) → IsSnap n e records base (map table_of levels) cols →
-    (self : Snap) → n ≡ self.number → rows_from (layout_of base (map table_of levels)) cols records ≡ self.rows →
-    (c : Change) → IsChange c → Fits self.number self.rows c →
-    (l : NewLevel) → IsNewLevel records c l → (made : Level) → made.edges ≡ l.edges → arc_value made.change ≡ c → (levels' : List Level) → levels' ≡ levels ++ made ∷ [] →
-    (cols' : Columns) → (let sts = stands_of cols (cells_of (layout_of base (map table_of levels)) records) in AreAfter c.number (hidden_by sts c.rows) (weighed_by sts c.rows) cols cols' (length l.edges) l.weights) →
-    (n' : ℕ) → n' ≡ c.number → (records' : List VertexRec) → records' ≡ l.vertices → (base' : Numbered) → base' ≡ base →
-    IsApplied self c e n' (e + l.added - l.killed) records' base' (map table_of levels') cols'
-applied n e records base levels cols h self number rows c valid fits l new made edges change levels' is cols' a n' n'-is records' records-is base' base-is =
-    let t : Table = record { slots = l.edges; sources = level_sources c.rows } in
-    let fits' : Fits n (rows_from (layout_of base (map table_of levels)) cols records) c = subst (λ k. Fits k (rows_from (layout_of base (map table_of levels)) cols records) c) (sym number) (subst (λ rs. Fits self.number rs c) (sym rows) fits) in
-    let size = written-slots c.number (grown records c.count) c.rows l.edges l.weights l.vertices new.written in
-    let e'-is : e + l.added - l.killed ≡ e + added_edges c - killed_edges c = (let x = new.added in let y = new.killed in omega (arith, x, y)) in
-    let b = snap-after n e records base (map table_of levels) cols h c valid fits' t (record { sources = size ∙ sym (length-level_sources c.rows); few = new.few }) refl l.weights new.weights l.vertices new.written cols' a (e + l.added - l.killed) e'-is in
-    let whole : IsApplied self c e c.number (e + l.added - l.killed) l.vertices base (map table_of levels ++ t ∷ []) cols' = record {
-      snap = b.snap;
-      count = b.count;
-      rows = λ v lt. b.rows v lt ∙ ap (λ rs. row_after c.rows v (row_at rs v)) rows;
-      whole = b.whole;
-    } in
-    let table : table_of made ≡ t = ap (λ es. record { slots = es; sources = level_sources (arc_value made.change).rows }) edges ∙ ap (λ (x : Change). record { slots = l.edges; sources = level_sources x.rows }) change in
-    let tables : map table_of levels ++ t ∷ [] ≡ map table_of levels' =
-    sym (ap (map table_of) is ∙ (map-append table_of levels (made ∷ []) ∙ ap (λ x. map table_of levels ++ x ∷ []) table)) in
-    let one : c.number ≡ n' = sym n'-is in
-    let three : l.vertices ≡ records' = sym records-is in
-    let four : base ≡ base' = sym base-is in
-    let P : ℕ × List VertexRec × Numbered × List Table → Type 0 = λ p. IsApplied self c e p.0 (e + l.added - l.killed) p.1 p.2 p.3 cols' in
-    subst P (λ j. (one j, three j, four j, tables j)) whole

@@ -11,7 +11,7 @@ use Rattle.lama_snapshot.specs.BaseRows.{base_slots}
 use Rattle.lama_snapshot.specs.Cells.{Columns, standing, stands}
 use Rattle.lama_snapshot.specs.Chains.{no_table, Layout, place_row, place_cells, IsPlace, AreColumns, slot_at, IsAtCell}
 use Rattle.lama_snapshot.specs.Snap.{Snap, IsTable, IsCell}
-use Rattle.lama_snapshot.specs.Shown.{shown, IsShown}
+use Rattle.lama_snapshot.specs.Shown.{shown, HasRows}
 use Rattle.lama_snapshot.specs.declared.snapshot.Snapshot.TheInside.{Inside}
 use Rattle.lama_snapshot.proofs.StepLemmas.{level_table, edge-step, base-step}
 use Rattle.lama_snapshot.proofs.NextLemmas.{cell-above, cell-below, slots-above}
@@ -67,7 +67,7 @@ place-behind l count v level o (suc left) place =
     by (inr low) = subst (λ k. IsSome (place_row l v level (o + 1) k)) (omega arith) (base-step l v level o (suc left) low (omega arith) place.some).some
 
 -- what stands at a place of a snapshot that has an edge left in its fragment
-pub place-step : (s : Inside) (snap : Snap) → shown s ≡ snap → IsShown s → (v level offset left : ℕ) → IsPlace snap.layout (length snap.rows) v level offset left → 0 < left
+pub place-step : (s : Inside) (snap : Snap) → shown s ≡ snap → HasRows s → (v level offset left : ℕ) → IsPlace snap.layout (length snap.rows) v level offset left → 0 < left
     → FragmentStep snap.layout snap.columns (length snap.rows) v level offset left
 place-step s snap is inv v level offset left place some = fragment-step snap.layout snap.columns (length snap.rows) v level offset left
     (subst (λ (x : Snap). AreColumns x.layout x.columns) is inv.columns)

@@ -18,7 +18,7 @@ use Rattle.lama_snapshot.specs.BaseRows.{Numbered}
 use Rattle.lama_snapshot.specs.Cells.{Columns, standing, visible, AreApart}
 use Rattle.lama_snapshot.specs.Chains.{Table, Layout, table_at, owner, AreOwned, AreColumns, cells_of}
 use Rattle.lama_snapshot.specs.Snap.{Snap, layout_of, IsSnap, edge_cell}
-use Rattle.lama_snapshot.specs.Shown.{shown, IsShown, columns_of}
+use Rattle.lama_snapshot.specs.Shown.{shown, HasRows, columns_of}
 use Rattle.lama_snapshot.specs.Found.{killed_slot, set_slot, killed_slots, set_slots, in_table}
 use Rattle.lama_snapshot.proofs.CellsFrom.{owner-within}
 use Rattle.lama_snapshot.proofs.ChainLemmas.{length-cells_of, cells_of-at, row-visible}
@@ -50,7 +50,7 @@ row-owned n e records base levels cols h u = by (cases_lt u (length records))
         let none : [] ≡ get_or (cells_of l records) u [] = sym (get_or_past (cells_of l records) u [] (omega (arith, m, ge))) in
         subst (λ row. AreOwned l u row × AreApart row) none (tt, tt)
 
-pub known : (i : Inside) → IsShown i → Known (shown i)
+pub known : (i : Inside) → HasRows i → Known (shown i)
 known i h =
     let l = (shown i).layout in
     let cols = columns_of i in

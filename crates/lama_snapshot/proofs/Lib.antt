@@ -13,7 +13,9 @@ pub mod Fragment
 pub mod Known
 pub mod BaseSnap
 pub mod WriteLemmas
+pub mod Earlier
 pub mod Applied
 pub mod SnapAfter
 pub mod Change
+pub mod HistoryAfter
 pub mod TargetRows

@@ -104,7 +104,7 @@ in_table-append t (p ∷ ps) qs =
 abbrev pub is_found : Cell → List (ℕ × ℕ) → Bool
 is_found c found = is_place c.place (in_table c.table found)
 
-found-cons : (c d : Cell) (found : List (ℕ × ℕ)) → is_found c ((d.table, d.place) ∷ found) ≡ is_same d c || is_found c found
+pub found-cons : (c d : Cell) (found : List (ℕ × ℕ)) → is_found c ((d.table, d.place) ∷ found) ≡ is_same d c || is_found c found
 found-cons c d found = ap (is_place c.place) (in_table-cons c.table (d.table, d.place) found) ∙ by (eqb d.table c.table)
   where
     by : (b : Bool) → is_place c.place (cond b (d.place ∷ in_table c.table found) (in_table c.table found)) ≡ (b && eqb d.place c.place) || is_found c found

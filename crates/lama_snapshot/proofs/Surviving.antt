@@ -110,7 +110,7 @@ twice cols cols' (p ∷ row) h = by (stands cols p) refl (twice cols cols' row h
     by true is rest = ap (λ xs. cond (stands cols' p) (p ∷ xs) xs) rest
     by false is rest = ap (λ b. cond b (p ∷ filter (stands cols') row) (filter (stands cols') row)) (h.0 is) ∙ rest
 
-stands-at : (cols : Columns) (row : List (ℕ × Cell)) (j : ℕ) → j < length (standing cols row) → stands cols (get_or (standing cols row) j no_edge) ≡ true
+pub stands-at : (cols : Columns) (row : List (ℕ × Cell)) (j : ℕ) → j < length (standing cols row) → stands cols (get_or (standing cols row) j no_edge) ≡ true
 stands-at cols [] j lt = absurd (omega arith)
 stands-at cols (p ∷ row) j lt = by (stands cols p) refl j (λ k. stands-at cols row k) lt
   where

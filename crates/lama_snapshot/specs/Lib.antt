@@ -6,6 +6,7 @@ pub mod Snap
 pub mod Targets
 pub mod Written
 pub mod Levels
+pub mod History
 pub mod Shown
 pub mod NewLevel
 pub mod Loops

@@ -4,6 +4,7 @@ use Rattle.std.specs.Arc.{arc_value}
 use Rattle.lama_snapshot.specs.Cells.{Columns}
 use Rattle.lama_snapshot.specs.Chains.{cells_of, rows_from}
 use Rattle.lama_snapshot.specs.Snap.{Snap, layout_of, IsSnap}
+use Rattle.lama_snapshot.specs.History.{IsHistory}
 use Rattle.lama_snapshot.specs.Levels.{table_of, change_of}
 use Rattle.lama_snapshot.specs.declared.snapshot.Snapshot.TheInside.{Inside}
 
@@ -28,5 +29,11 @@ shown s =
       cells = cells_of layout s.vertices;
     }
 
-abbrev pub IsShown : Inside → Type 0
-IsShown s = IsSnap s.number s.edge_count s.vertices (arc_value s.base) (map table_of (map arc_value s.levels.items)) (columns_of s)
+-- the fields stand for its rows
+abbrev pub HasRows : Inside → Type 0
+HasRows s = IsSnap s.number s.edge_count s.vertices (arc_value s.base) (map table_of (map arc_value s.levels.items)) (columns_of s)
+
+-- and tell of the graphs before
+pub record IsShown (s : Inside) : Type 0 where
+  pub snap : HasRows s
+  pub history : IsHistory (shown s).layout (columns_of s) s.vertices (shown s).changes

@@ -64,3 +64,16 @@ pub record IsCell (cols : Columns) (c : Cell) : Type 0 where
 -- the cell of the edge of that index in the row of v, of which the newest has index 0
 abbrev pub edge_cell : Snap → ℕ → ℕ → Cell
 edge_cell s v k = (slice_index_or (standing s.columns (slice_index_or s.cells v [])) k (0, record { table = 0; place = 0 })).1
+
+-- no snapshot
+abbrev pub no_snap : Snap
+no_snap = record {
+  number = 0;
+  base = record { number = 0; rows = [] };
+  rows = [];
+  changes = [];
+  edge_count = 0;
+  layout = record { floor = 0; base = []; levels = [] };
+  columns = record { marks = []; weights = [] };
+  cells = [];
+}

@@ -10,6 +10,8 @@ ghost use Rattle.lama_snapshot.specs.Cells.{standing, stands, visible, weight_at
 ghost use Rattle.lama_edges.specs.declared.records.Slot.TheVariants.{Edge as SeenEdge};
 ghost use Rattle.lama_snapshot.specs.Chains.{IsPlace, place_cells, slot_at, IsEdgeCell, IsAtCell};
 ghost use Rattle.lama_snapshot.specs.Snap.{floor_of, change_at, IsCell};
+ghost use Rattle.lama_snapshot.specs.History.{was_there, row_then};
+ghost use Rattle.lama_snapshot.specs.Levels.{change_of};
 ghost use Rattle.lama_snapshot.specs.Found.{cells_at, killed_slot, set_slot, killed_slots, set_slots, AreHidden, AreSet};
 
 use crate::apply::{NewLevel, edges_at_most, edges_of, push_level, write_level};
@@ -88,6 +90,7 @@ impl Snapshot {
     pub fn number(&self) -> u32
         ensures is { result ≡ self.now.number }
         ensures limit { result ≤ 100000000 }
+        ensures changes { length self.now.changes + floor_of self.now ≡ result }
     {
         self.number
     }
@@ -155,6 +158,41 @@ impl Snapshot {
             hidden,
             weights: marked,
         })
+    }
+
+    /// The targets of the row of `v` in the graph of the number `k`, newest first: a vertex that came later has none. The
+    /// weights of then are not kept. Costs the row with its edges that are gone since the base. The only error is want
+    /// of memory.
+    pub fn row_as_of(&self, alloc: Global, v: u32, k: u32) -> Result<Vec<u32>, AllocError>
+        requires vertex { v < length self.now.rows }
+        requires from_floor { floor_of self.now ≤ k }
+        requires to_number { k ≤ self.now.number }
+        ensures { IfOk result (λ targets. targets.items ≡ map (λ p. p.0) (row_then (floor_of self.now) self.now.base.rows self.now.changes k v)) }
+    {
+        let base: &Base = &self.base;
+        let tables = k - base.number();
+        let mut targets = Vec::new(alloc);
+        let mut at = self.row_place(v);
+        while let Some((cell, rest)) = self.next_cell(at) {
+            if self.was_there(cell, tables, k) {
+                targets.push(self.target_at(cell))?;
+            }
+            at = rest;
+        }
+        Ok(targets)
+    }
+
+    // Whether the edge in the cell was in the graph of the number `k`, to which the tables up to that number lead.
+    fn was_there(&self, cell: Cell, tables: u32, k: u32) -> bool
+        requires cell { IsCell self.now.columns cell }
+        requires tables { tables ≡ k - floor_of self.now }
+        ensures { (t : ℕ) → result ≡ was_there (floor_of self.now) self.now.columns k (t, cell) }
+    {
+        if cell.table > tables {
+            return false;
+        }
+        let mark = self.hidden[cell.table as usize].hidden_at(cell.place);
+        mark == 0 || k < mark
     }
 
     // Its levels, which are older than the next one.
@@ -516,9 +554,26 @@ impl Snapshot {
         requires within { k ≤ self.now.number }
         ensures { result.now ≡ change_at self.now k }
     {
+        &self.level_of(k).change
+    }
+
+    /// The same, shared. The only error is want of memory.
+    pub fn share_change(&self, k: u32) -> Result<Arc<Change, Global>, AllocError>
+        requires above { floor_of self.now < k }
+        requires within { k ≤ self.now.number }
+        ensures { IfOk result (λ change. arc_value change ≡ change_at self.now k) }
+    {
+        Arc::try_clone(&self.level_of(k).change)
+    }
+
+    // Its level of the number `k`.
+    fn level_of(&self, k: u32) -> &Level
+        requires above { floor_of self.now < k }
+        requires within { k ≤ self.now.number }
+        ensures { change_of result.now ≡ change_at self.now k }
+    {
         let base: &Base = &self.base;
-        let level: &Level = &self.levels[(k - base.number() - 1) as usize];
-        &level.change
+        &self.levels[(k - base.number() - 1) as usize]
     }
 
     /// Its base.

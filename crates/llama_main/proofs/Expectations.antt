@@ -12,7 +12,7 @@ use Rattle.lama_model.specs.Lines.{last_line}
 use Rattle.lama_model.specs.Text.{transcript_from, text, text_of, journal_after, lines_of, reading_lines, look_of}
 use Rattle.lama_model.specs.declared.calls.Entry.{Entry}
 use Rattle.lama_model.specs.declared.commands.Command.{Command}
-use Rattle.lama_model.specs.declared.commands.Command.TheVariants.{Write as Writes, Checkpoint as Checkpoints, Read as Reads}
+use Rattle.lama_model.specs.declared.commands.Command.TheVariants.{Write as Writes, Checkpoint as Checkpoints, Retire as Retires, Read as Reads}
 use Rattle.lama_model.specs.declared.commands.Read.{Read}
 use Rattle.lama_model.specs.declared.answers.Reply.{Reply}
 use Rattle.lama_model.specs.declared.answers.Reply.TheVariants.{Accepted, Count, Snapshot, Kept, Refused}
@@ -25,6 +25,7 @@ use Rattle.llama_main.specs.Expected.{behind, ended, held_after, printed, printe
 journal_after-held : (journal : List Entry) (c : Command) → held_by (journal_after empty_opening journal 0 c) ≡ held_after (held_by journal) c
 journal_after-held journal (Writes w) = held_by-push journal _
 journal_after-held journal Checkpoints = held_by-push journal _
+journal_after-held journal (Retires k) = held_by-push journal _
 journal_after-held journal (Reads at what) = held_by-push journal _
 
 reading-printed : (journal : List Entry) (h : Held) (c : Command) (what : Read) (r : Reply) → held_by journal ≡ h → reading_lines empty_opening journal c what r ≡ printed_reading h c what r
@@ -38,6 +39,7 @@ reading-printed journal h c what (Refused r) is = refl
 lines_of-printed : (journal : List Entry) (c : Command) → lines_of empty_opening journal 0 c ≡ printed (held_by journal) c
 lines_of-printed journal (Writes w) = refl
 lines_of-printed journal Checkpoints = refl
+lines_of-printed journal (Retires k) = refl
 lines_of-printed journal (Reads at what) =
     reading-printed (journal_after empty_opening journal 0 (Reads at what)) (held_after (held_by journal) (Reads at what)) (Reads at what) what (reply empty_opening journal (look_of at)) (journal_after-held journal (Reads at what))
 

@@ -3,13 +3,12 @@
 ghost use Rattle.std.specs.Prelude.{◌≡◌, ◌+◌, ◌<◌, ◌≤◌, [], ◌∷◌, ◌++◌, ℕ, List, IfOk, IfErr, OnOk, OnErr, length};
 ghost use Rattle.lama_model.specs.Opening.{empty_opening};
 ghost use Rattle.lama_model.specs.Journal.{graph_of};
-ghost use Rattle.lama_model.specs.Text.{read_lines};
 ghost use Rattle.lama_model.specs.Lines.{refusal_line};
 ghost use Rattle.lama_model.specs.declared.answers.Refusal.TheVariants.{UnknownVertex};
 ghost use Rattle.llama_main.specs.Words.{IsTeam};
-ghost use Rattle.lama_model.specs.declared.commands.Read.TheVariants.{Row, Edges, Degrees, Bfs, Labels, Rank};
-ghost use Rattle.llama_main.specs.Store.{held_by, AreOfGraph};
-ghost use Rattle.llama_main.specs.Expected.{held_after, printed, expected_from};
+ghost use Rattle.lama_model.specs.declared.commands.Read.TheVariants.{Row, Edges, Degrees, Bfs, Labels, Rank, AsOf};
+ghost use Rattle.llama_main.specs.Store.{held_by, AreOfGraph, IsTold};
+ghost use Rattle.llama_main.specs.Expected.{held_after, told_at, printed, expected_from};
 ghost use Rattle.llama_main.specs.Stop.{StopsAt, IsOfScript};
 ghost use Rattle.llama_main.specs.Interpreter.{expected_of, IsRunning, command_in};
 
@@ -24,7 +23,7 @@ use lama_model::{Refusal, Reply, Rows};
 use lama_pages::Steps;
 use lama_rank::{degrees, rank};
 use lama_script::{
-    Command, Item, Parser, Read, ScriptFault, print_degrees, print_edges, print_labels,
+    Command, Item, Parser, Read, ScriptFault, print_asof, print_degrees, print_edges, print_labels,
     print_levels, print_rank, print_reply, print_row,
 };
 use lama_snapshot::{Snapshot, Targets};
@@ -147,6 +146,10 @@ impl Interpreter {
                 let reply = self.store.checkpoint(pages)?;
                 print_reply(&mut self.out, command, &reply)
             }
+            Command::Retire { k } => {
+                let reply = self.store.retire(k)?;
+                print_reply(&mut self.out, command, &reply)
+            }
             Command::Read { at, what } => {
                 let Looked { reply, snapshot } = self.store.look(at)?;
                 match snapshot {
@@ -166,10 +169,10 @@ impl Interpreter {
         what: Read,
     ) -> Result<(), AllocError>
         requires team { IsTeam team.now.workers }
-        requires rows { AreOfGraph snapshot.now.rows (graph_of empty_opening self.old.store.standing snapshot.now.number) }
+        requires told { IsTold self.old.store.standing snapshot.now }
         ensures parser { self.new.parser ≡ self.old.parser }
         ensures store { self.new.store ≡ self.old.store }
-        ensures printed { OnOk result (self.new.out.items ≡ self.old.out.items ++ read_lines (graph_of empty_opening self.old.store.standing snapshot.now.number) snapshot.now.number what) }
+        ensures printed { OnOk result (self.new.out.items ≡ self.old.out.items ++ told_at self.old.store snapshot.now.number what) }
         ensures err { OnErr result (self.new.out.items ≡ self.old.out.items) }
     {
         match what {
@@ -179,6 +182,7 @@ impl Interpreter {
             Read::Labels { sum } => self.read_labels(team, snapshot, sum),
             Read::Degrees => self.read_degrees(team, snapshot),
             Read::Rank { rounds, sum } => self.read_ranks(team, snapshot, rounds, sum),
+            Read::AsOf { j, v } => self.read_as_of(team, command, snapshot, j, v),
         }
     }
 
@@ -187,7 +191,7 @@ impl Interpreter {
         requires { AreOfGraph snapshot.now.rows (graph_of empty_opening self.old.store.standing snapshot.now.number) }
         ensures parser { self.new.parser ≡ self.old.parser }
         ensures store { self.new.store ≡ self.old.store }
-        ensures printed { OnOk result (self.new.out.items ≡ self.old.out.items ++ read_lines (graph_of empty_opening self.old.store.standing snapshot.now.number) snapshot.now.number (Row v)) }
+        ensures printed { OnOk result (self.new.out.items ≡ self.old.out.items ++ told_at self.old.store snapshot.now.number (Row v)) }
         ensures err { OnErr result (self.new.out.items ≡ self.old.out.items) }
     {
         let count = snapshot.count();
@@ -210,7 +214,16 @@ impl Interpreter {
         ensures printed { OnOk result (self.new.out.items ≡ self.old.out.items ++ refusal_line (UnknownVertex vertex count)) }
         ensures err { OnErr result (self.new.out.items ≡ self.old.out.items) }
     {
-        let refusal = Refusal::UnknownVertex { vertex, count };
+        self.refuse(command, Refusal::UnknownVertex { vertex, count })
+    }
+
+    /// Says what is refused.
+    fn refuse(&mut self, command: &Command, refusal: Refusal) -> Result<(), AllocError>
+        ensures parser { self.new.parser ≡ self.old.parser }
+        ensures store { self.new.store ≡ self.old.store }
+        ensures printed { OnOk result (self.new.out.items ≡ self.old.out.items ++ refusal_line refusal) }
+        ensures err { OnErr result (self.new.out.items ≡ self.old.out.items) }
+    {
         print_reply(&mut self.out, command, &Reply::Refused(refusal))
     }
 
@@ -219,7 +232,7 @@ impl Interpreter {
         requires { AreOfGraph snapshot.now.rows (graph_of empty_opening self.old.store.standing snapshot.now.number) }
         ensures parser { self.new.parser ≡ self.old.parser }
         ensures store { self.new.store ≡ self.old.store }
-        ensures printed { OnOk result (self.new.out.items ≡ self.old.out.items ++ read_lines (graph_of empty_opening self.old.store.standing snapshot.now.number) snapshot.now.number Edges) }
+        ensures printed { OnOk result (self.new.out.items ≡ self.old.out.items ++ told_at self.old.store snapshot.now.number Edges) }
         ensures err { OnErr result (self.new.out.items ≡ self.old.out.items) }
     {
         print_edges(&mut self.out, snapshot.number(), snapshot)
@@ -238,7 +251,7 @@ impl Interpreter {
         requires rows { AreOfGraph snapshot.now.rows (graph_of empty_opening self.old.store.standing snapshot.now.number) }
         ensures parser { self.new.parser ≡ self.old.parser }
         ensures store { self.new.store ≡ self.old.store }
-        ensures printed { OnOk result (self.new.out.items ≡ self.old.out.items ++ read_lines (graph_of empty_opening self.old.store.standing snapshot.now.number) snapshot.now.number (Bfs s sum)) }
+        ensures printed { OnOk result (self.new.out.items ≡ self.old.out.items ++ told_at self.old.store snapshot.now.number (Bfs s sum)) }
         ensures err { OnErr result (self.new.out.items ≡ self.old.out.items) }
     {
         let count = snapshot.count();
@@ -262,7 +275,7 @@ impl Interpreter {
         requires rows { AreOfGraph snapshot.now.rows (graph_of empty_opening self.old.store.standing snapshot.now.number) }
         ensures parser { self.new.parser ≡ self.old.parser }
         ensures store { self.new.store ≡ self.old.store }
-        ensures printed { OnOk result (self.new.out.items ≡ self.old.out.items ++ read_lines (graph_of empty_opening self.old.store.standing snapshot.now.number) snapshot.now.number (Labels sum)) }
+        ensures printed { OnOk result (self.new.out.items ≡ self.old.out.items ++ told_at self.old.store snapshot.now.number (Labels sum)) }
         ensures err { OnErr result (self.new.out.items ≡ self.old.out.items) }
     {
         let targets = Targets::new(snapshot);
@@ -279,7 +292,7 @@ impl Interpreter {
         requires rows { AreOfGraph snapshot.now.rows (graph_of empty_opening self.old.store.standing snapshot.now.number) }
         ensures parser { self.new.parser ≡ self.old.parser }
         ensures store { self.new.store ≡ self.old.store }
-        ensures printed { OnOk result (self.new.out.items ≡ self.old.out.items ++ read_lines (graph_of empty_opening self.old.store.standing snapshot.now.number) snapshot.now.number Degrees) }
+        ensures printed { OnOk result (self.new.out.items ≡ self.old.out.items ++ told_at self.old.store snapshot.now.number Degrees) }
         ensures err { OnErr result (self.new.out.items ≡ self.old.out.items) }
     {
         let totals = degrees(team.rt, snapshot);
@@ -298,7 +311,7 @@ impl Interpreter {
         requires rows { AreOfGraph snapshot.now.rows (graph_of empty_opening self.old.store.standing snapshot.now.number) }
         ensures parser { self.new.parser ≡ self.old.parser }
         ensures store { self.new.store ≡ self.old.store }
-        ensures printed { OnOk result (self.new.out.items ≡ self.old.out.items ++ read_lines (graph_of empty_opening self.old.store.standing snapshot.now.number) snapshot.now.number (Rank rounds sum)) }
+        ensures printed { OnOk result (self.new.out.items ≡ self.old.out.items ++ told_at self.old.store snapshot.now.number (Rank rounds sum)) }
         ensures err { OnErr result (self.new.out.items ≡ self.old.out.items) }
     {
         let targets = Targets::new(snapshot);
@@ -311,5 +324,37 @@ impl Interpreter {
             team.gate,
         )?;
         print_rank(&mut self.out, snapshot.number(), rounds, &found, sum)
+    }
+    /// Reads the targets that the row of a vertex has in the graph of the number `j`.
+    fn read_as_of<R: Threads + Sync, G: Gate + Sync>(
+        &mut self,
+        team: &Team<R, G>,
+        command: &Command,
+        snapshot: &Snapshot,
+        j: u32,
+        v: u32,
+    ) -> Result<(), AllocError>
+        requires { IsTold self.old.store.standing snapshot.now }
+        ensures parser { self.new.parser ≡ self.old.parser }
+        ensures store { self.new.store ≡ self.old.store }
+        ensures printed { OnOk result (self.new.out.items ≡ self.old.out.items ++ told_at self.old.store snapshot.now.number (AsOf j v)) }
+        ensures err { OnErr result (self.new.out.items ≡ self.old.out.items) }
+    {
+        let number = snapshot.number();
+        let floor = snapshot.floor();
+        if j < floor || number < j {
+            let refusal = Refusal::NoSnapshot {
+                asked: j,
+                oldest: floor,
+                newest: number,
+            };
+            return self.refuse(command, refusal);
+        }
+        let count = snapshot.count();
+        if v >= count {
+            return self.refuse_vertex(command, v, count);
+        }
+        let targets = snapshot.row_as_of(team.alloc, v, j)?;
+        print_asof(&mut self.out, number, j, v, &targets)
     }
 }

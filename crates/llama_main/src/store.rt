@@ -6,7 +6,7 @@ ghost use Rattle.lama_model.specs.Opening.{empty_opening};
 ghost use Rattle.lama_model.specs.Journal.{reply_at};
 ghost use Rattle.lama_model.specs.Text.{look_of};
 ghost use Rattle.lama_model.specs.declared.answers.Reply.TheVariants.{Snapshot as SeenSnapshot};
-ghost use Rattle.lama_model.specs.declared.calls.Call.TheVariants.{Write as WriteCall, Checkpoint, Look, LookAt};
+ghost use Rattle.lama_model.specs.declared.calls.Call.TheVariants.{Write as WriteCall, Checkpoint, Look, LookAt, Retire};
 ghost use Rattle.lama_book.specs.Relation.{IsBookOf};
 ghost use Rattle.llama_main.specs.Store.{held_by, called, IsFound};
 
@@ -82,6 +82,18 @@ impl Store {
         ensures err { OnErr result (self.new ≡ self.old) }
     {
         let Ok(reply) = self.book.checkpoint(0, pages) else {
+            return Err(AllocError);
+        };
+        Ok(reply)
+    }
+
+    /// Lets the snapshots before that of the number go.
+    pub fn retire(&mut self, k: u32) -> Result<Reply, AllocError>
+        ensures reply { IfOk result (λ r. r ≡ reply_at empty_opening self.old.standing (Retire k)) }
+        ensures after { OnOk result (self.new ≡ called self.old (Retire k)) }
+        ensures err { OnErr result (self.new ≡ self.old) }
+    {
+        let Ok(reply) = self.book.retire(0, k) else {
             return Err(AllocError);
         };
         Ok(reply)

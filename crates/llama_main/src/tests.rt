@@ -121,6 +121,58 @@ fn scripts_give_their_texts(rt: HostRuntime) -> Result<(), Fail> {
 }
 
 #[test]
+fn retired_snapshots_are_gone(rt: HostRuntime) -> Result<(), Fail> {
+    let done: [(&[u8], &[u8]); 3] = [
+        (
+            b"checkpoint\ncheckpoint\ncheckpoint\ncheckpoint\nretire 3\n@2 row 0\nretire 9\n",
+            b"snapshot 1\nsnapshot 2\nsnapshot 3\nsnapshot 4\nkept 3 4\nno snapshot 2 of 3 4\nno snapshot 9 of 3 4\nend 7\n",
+        ),
+        // The oldest may be named again, and no older one.
+        (
+            b"vertices 1\nadd 0 0 3\ncheckpoint\nretire 1\nretire 1\nretire 0\n@1 row 0\nadd 0 0 4\ncheckpoint\n@1 row 0\nrow 0\n",
+            b"vertices 1\nsnapshot 1\nkept 1 1\nkept 1 1\nno snapshot 0 of 1 1\nrow 1 0 : 0/3\nsnapshot 2\nrow 1 0 : 0/3\nrow 2 0 : 0/4 0/3\nend 11\n",
+        ),
+        // What waits for a checkpoint waits on.
+        (
+            b"vertices 2\nadd 0 1\nretire 0\ncheckpoint\nretire 1\nrow 0\n",
+            b"vertices 2\nkept 0 0\nsnapshot 1\nkept 1 1\nrow 1 0 : 1/1\nend 6\n",
+        ),
+    ];
+    for (script, text) in done {
+        gives(&rt, script, text, Status::Done)?;
+    }
+    Ok(())
+}
+
+#[test]
+fn earlier_rows_are_read_through_later_snapshots(rt: HostRuntime) -> Result<(), Fail> {
+    let done: [(&[u8], &[u8]); 4] = [
+        (
+            b"vertices 3\nadd 0 1\ncheckpoint\nadd 0 2\ncheckpoint\ndel 0 1\ncheckpoint\nasof 2 0\nasof 3 0\nasof 1 0\nasof 0 0\nasof 4 0\nasof 1 3\n@1 asof 2 0\n@2 asof 1 0\n",
+            b"vertices 3\nsnapshot 1\nsnapshot 2\nsnapshot 3\nasof 3 2 0 : 2 1\nasof 3 3 0 : 2\nasof 3 1 0 : 1\nasof 3 0 0 :\nno snapshot 4 of 0 3\nunknown vertex 3 of 3\nno snapshot 2 of 0 1\nasof 2 1 0 : 1\nend 15\n",
+        ),
+        // An edge that is deleted and added again, parallel edges, and a new weight, which changes no target.
+        (
+            b"vertices 2\nadd 0 1\nadd 0 0\nadd 0 1\ncheckpoint\ndel 0 1\nadd 0 1 5\ncheckpoint\nweigh 0 0 9\ndel 0 1\ncheckpoint\nasof 1 0\nasof 2 0\nasof 3 0\n",
+            b"vertices 2\nsnapshot 1\nsnapshot 2\nsnapshot 3\nasof 3 1 0 : 1 0 1\nasof 3 2 0 : 1 0\nasof 3 3 0 : 0\nend 14\n",
+        ),
+        // The number is looked at before the vertex, and a retirement lets no earlier graph go.
+        (
+            b"vertices 1\nadd 0 0\ncheckpoint\ncheckpoint\nretire 2\nasof 3 7\nasof 1 7\nasof 1 0\n@1 asof 1 0\n@1 asof 9 9\n",
+            b"vertices 1\nsnapshot 1\nsnapshot 2\nkept 2 2\nno snapshot 3 of 0 2\nunknown vertex 7 of 1\nasof 2 1 0 : 0\nno snapshot 1 of 2 2\nno snapshot 1 of 2 2\nend 10\n",
+        ),
+        (
+            b"asof 0 0\nvertices 1\ncheckpoint\nasof 0 0\n",
+            b"unknown vertex 0 of 0\nvertices 1\nsnapshot 1\nasof 1 0 0 :\nend 4\n",
+        ),
+    ];
+    for (script, text) in done {
+        gives(&rt, script, text, Status::Done)?;
+    }
+    Ok(())
+}
+
+#[test]
 fn deletions_and_weights_wait_for_a_checkpoint(rt: HostRuntime) -> Result<(), Fail> {
     let done: [(&[u8], &[u8]); 9] = [
         // Parallel edges go together, and what is added after the deletion stays.
@@ -223,12 +275,14 @@ fn so_many_snapshots_are_kept(rt: HostRuntime) -> Result<(), Fail> {
     for _ in 0..4096 {
         script.extend_from_slice(b"checkpoint\n")?;
     }
+    script.extend_from_slice(b"retire 1\ncheckpoint\n")?;
     let (status, text) = run_script(&rt, &script, 1_000_000, &[], &[])?;
     assert_eq!(rt; status, Status::Done);
     assert!(rt; text.as_slice().starts_with(b"snapshot 1\nsnapshot 2\n"));
     assert!(rt;
-        text.as_slice()
-            .ends_with(b"\nsnapshot 4095\nfull snapshots\nend 4096\n")
+        text.as_slice().ends_with(
+            b"\nsnapshot 4095\nfull snapshots\nkept 1 4095\nsnapshot 4096\nend 4098\n"
+        )
     );
     Ok(())
 }

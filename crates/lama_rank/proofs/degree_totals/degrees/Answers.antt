@@ -1,11 +1,10 @@
-use Rattle.std.proofs.Common.{◌≡◌, ◌∙◌, ℕ, ◌-◌, ◌<◌, List, ap, arith, length, map, subst}
+use Rattle.std.proofs.Common.{◌≡◌, ◌∙◌, ◌-◌, ◌<◌, ap, arith, length, map, subst}
 use Rattle.std.specs.List.{range_with_len}
 use Rattle.std.proofs.lemmas.Slice.Zip.{AllZip-map}
 use Rattle.lama_model.specs.Row.{row_at, AreTargetsBelow}
 use Rattle.rayon.specs.Numbers.{nat_range}
 use Rattle.rayon.proofs.Reducing.{Reduces-elim}
 use Rattle.rayon.proofs.ToStd.{nat_range-All}
-use Rattle.lama_rank.specs.declared.degree_totals.Totals.{Totals}
 use Rattle.lama_rank.specs.Counts.{of_one}
 use Rattle.lama_rank.proofs.Counting.{AreSummed, none-summed, more-summed, both-summed, vertices-are, edges-are, greatest-is, sinks-are}
 use Rattle.lama_rank.proofs.degree_totals.degrees.Goals as goal

@@ -1,12 +1,10 @@
-use Rattle.std.proofs.Common.{◌≡◌, ◌∙◌, ℕ, zero, suc, ◌+◌, ◌-◌, ◌<◌, List, [], ◌∷◌, ◌++◌, ap, arith, get_or, length, map, subst, sym}
+use Rattle.std.proofs.Common.{◌≡◌, ◌∙◌, ◌-◌, [], ◌∷◌, ◌++◌, ap, arith, length, map, subst, sym}
 use Rattle.std.specs.List.{range_with_len}
 use Rattle.std.proofs.lemmas.Result.{IfOk-weaker}
-use Rattle.std.proofs.lemmas.List.{length-map, get_or-map}
 use Rattle.lama_model.specs.Row.{edges_from, AreTargetsBelow}
 use Rattle.lama_model.proofs.EdgePairs.{range-part}
-use Rattle.lama_work.specs.Pieces.{piece_start}
 use Rattle.lama_work.proofs.Cover.{both-ok}
-use Rattle.lama_rank.specs.Rounds.{all_edges, edges_to, AreByTarget}
+use Rattle.lama_rank.specs.Rounds.{all_edges, AreByTarget}
 use Rattle.lama_rank.proofs.Pieces.{one-by-target, pieces-by-target}
 use Rattle.lama_rank.proofs.page_rank.edges_by_target.Goals as goal
 

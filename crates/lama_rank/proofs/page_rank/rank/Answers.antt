@@ -1,9 +1,7 @@
-use Rattle.std.proofs.Common.{◌≡◌, ◌∙◌, ℕ, ◌+◌, ◌-◌, ◌≤◌, false, true, ap, arith, length, map, subst, sym}
+use Rattle.std.proofs.Common.{◌≡◌, ◌∙◌, ◌+◌, ◌-◌, ◌≤◌, false, true, ap, arith, length, map, subst, sym}
 use Rattle.std.proofs.lemmas.Result.{IfOk-weaker}
-use Rattle.std.proofs.lemmas.List.FromFn.{length-map-range_with_len}
 use Rattle.std.specs.List.{range_with_len}
 use Rattle.lama_model.specs.Row.{graph_of_rows, AreTargetsBelow}
-use Rattle.lama_model.specs.Degrees.{out_degrees}
 use Rattle.lama_model.specs.Ranks.{ranks}
 use Rattle.lama_rank.specs.Rounds.{handed, share, all_edges, after_round}
 use Rattle.lama_rank.proofs.Recursion.{shares_at, degrees-are, first-shares, shares-count, handed-few, next-shares, last-ranks, all-first}

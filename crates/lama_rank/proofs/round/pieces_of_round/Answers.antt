@@ -1,4 +1,4 @@
-use Rattle.std.proofs.Common.{◌≡◌, ◌∙◌, ◌+◌, arith, get_or, length, map}
+use Rattle.std.proofs.Common.{◌+◌, arith, length}
 use Rattle.std.proofs.lemmas.Result.{IfOk-weaker}
 use Rattle.lama_work.proofs.Cover.{starts-rise, starts-within, both-ok}
 use Rattle.lama_rank.proofs.Pieces.{answers-at}

@@ -1,7 +1,7 @@
-use Rattle.std.proofs.Common.{◌≡◌, ◌∙◌, ℕ, ◌+◌, ◌-◌, ◌<◌, ap, arith, get_or, length, sym}
+use Rattle.std.proofs.Common.{◌≡◌, ◌∙◌, ◌+◌, ◌-◌, ap, arith, get_or, length}
 use Rattle.std.proofs.lemmas.List.{take_at, get_or-replicate, length-replicate}
 use Rattle.lama_model.specs.Ranks.{rank_of_sum}
-use Rattle.lama_rank.specs.Rounds.{handed, left_of}
+use Rattle.lama_rank.specs.Rounds.{left_of}
 use Rattle.lama_rank.proofs.Pieces.{piece-is}
 use Rattle.lama_rank.proofs.round.round_of_piece.Goals as goal
 

@@ -1,4 +1,4 @@
-use Rattle.std.proofs.Common.{ℕ, length}
+use Rattle.std.proofs.Common.{length}
 use Rattle.lama_snapshot.proofs.tests.edges_of.Given as goal
 
 abbrev pub invariant-loop-target : goal.invariant-loop-target

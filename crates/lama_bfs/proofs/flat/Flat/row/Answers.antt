@@ -1,6 +1,5 @@
-use Rattle.std.proofs.Common.{◌≡◌, ◌∙◌, ◌+◌, ◌-◌, ◌<◌, ◌≤◌, ap, arith, drop, length, map, sym, take}
-use Rattle.std.specs.List.{range_with_len}
-use Rattle.std.proofs.lemmas.List.FromFn.{length-map-range_with_len, get_or-map-range_with_len}
+use Rattle.std.proofs.Common.{◌∙◌, ◌+◌, ◌-◌, ap, arith, drop, length, take}
+use Rattle.std.proofs.lemmas.List.FromFn.{length-map-range_with_len}
 use Rattle.lama_bfs.specs.Flat.{edges_below}
 use Rattle.lama_bfs.proofs.FlatRows.{below-more, below-le, firsts-length, row-between, start-is}
 use Rattle.lama_bfs.proofs.flat.Flat.row.Goals as goal

@@ -1,4 +1,4 @@
-use Rattle.std.proofs.Common.{◌≡◌, ◌∙◌, ◌-◌, ◌≤◌, List, ap, arith, drop, length, map, subst, sym, take}
+use Rattle.std.proofs.Common.{◌∙◌, ◌-◌, List, ap, arith, drop, length, subst, sym}
 use Rattle.std.specs.Arc.{arc_value}
 use Rattle.lama_snapshot.specs.Snap.{Snap}
 use Rattle.lama_book.specs.Book.{Book, IsWhole}

@@ -17,7 +17,8 @@ use Rattle.lama_snapshot.specs.declared.level.Level.{Level}
 use Rattle.lama_array.specs.contracts.version.VArray.{the_view}
 use Rattle.lama_edges.specs.contracts.records.VertexRec.{the_row}
 use Rattle.lama_snapshot.proofs.SnapAfter.{degrees-grown, within-before, AreAfter}
-use Rattle.lama_snapshot.proofs.Change.{stands_of, hidden_by, weighed_by, IsApplied, applied}
+use Rattle.lama_snapshot.proofs.Change.{stands_of, hidden_by, weighed_by}
+use Rattle.lama_snapshot.proofs.HistoryAfter.{IsApplied, applied}
 use Rattle.lama_snapshot.proofs.snapshot.Snapshot.apply.Given as given
 use Rattle.lama_snapshot.proofs.snapshot.Snapshot.apply.Goals as goal
 
@@ -41,7 +42,7 @@ write_level-requires-clause-within g c =
     let n = length-rows_from l cols c.self.inside.vertices in
     let is = ap (λ (s : Snap). length s.rows) c.self.view_is in
     let r = c.requires.grows in
-    let ok = within-before c.self.inside.number c.self.inside.edge_count c.self.inside.vertices (shown c.self.inside).base l.levels cols c.self.invariant w.count (omega (arith, n, is, r)) w.rows valid.rows
+    let ok = within-before c.self.inside.number c.self.inside.edge_count c.self.inside.vertices (shown c.self.inside).base l.levels cols c.self.invariant.snap w.count (omega (arith, n, is, r)) w.rows valid.rows
     (subst (λ (s : Snap). All (HasIndexes s.rows) w.rows) (sym c.self.view_is) c.requires.indexes) in
     subst (λ (x : Change). All (IsWithin (c.self.inside.vertices ++ replicate (x.count - length c.self.inside.vertices) (record { level = 0; offset = 0; len = 0; degree = 0 }))) x.rows) (sym c.deref-wanted.ensures) ok
 
@@ -51,7 +52,7 @@ overflow_sub-result g c =
     let k = level.killed in let a = level.added in
     let d = level.written.degrees in
     let before = degrees-grown c.self.inside.vertices c.deref-wanted.result.now.count in
-    let e = c.self.invariant.edges in
+    let e = c.self.invariant.snap.edges in
     omega (arith, k, a, d, before, e)
 
 -- the columns of the result are those of the levels before, with what the change hides and weighs, and the new level's
@@ -75,7 +76,7 @@ columns-here g c =
     }
 
 applied-here : (g : given.Over) (c : goal.In_ok-try_clone g) →
-    IsApplied c.args.self.now (arc_value c.args.change) c.self.inside.edge_count c.wanted.inside.number (c.self.inside.edge_count + c.in_ok-vertices.field-0.added - c.in_ok-vertices.field-0.killed) (the_view the_row c.vertices.inside) (arc_value c.in_ok-try_clone.field-0) (map table_of (map arc_value c.in_ok-levels.levels.items))
+    IsApplied c.args.self.now (arc_value c.args.change) c.self.inside.edge_count c.wanted.inside.number (c.self.inside.edge_count + c.in_ok-vertices.field-0.added - c.in_ok-vertices.field-0.killed) (the_view the_row c.vertices.inside) (arc_value c.in_ok-try_clone.field-0) (map arc_value c.in_ok-levels.levels.items)
     (record { marks = c.push.new.self.items; weights = c.push-2.new.self.items })
 applied-here g c =
     let w : Change = arc_value c.args.change in
@@ -87,13 +88,13 @@ applied-here g c =
     let all : map arc_value c.in_ok-levels.levels.items ≡ levels ++ made ∷ [] = c.in_ok-levels.ensures ∙ ap (λ xs. map arc_value xs ++ made ∷ []) c.deref.ensures.value in
     let n : c.wanted.inside.number ≡ w.number = ap (λ (x : Change). x.number) (c.wanted.view_is ∙ now) in
     let b : arc_value c.in_ok-try_clone.field-0 ≡ arc_value c.self.inside.base = c.in_ok-try_clone.ensures in
-    applied c.self.inside.number c.self.inside.edge_count c.self.inside.vertices (arc_value c.self.inside.base) levels (columns_of c.self.inside) c.self.invariant c.args.self.now (ap (λ (s : Snap). s.number) c.self.view_is) (ap (λ (s : Snap). s.rows) c.self.view_is) w valid c.requires
+    applied c.self.inside.number c.self.inside.edge_count c.self.inside.vertices (arc_value c.self.inside.base) levels (columns_of c.self.inside) c.self.invariant.snap c.self.invariant.history c.args.self.now (ap (λ (s : Snap). s.number) c.self.view_is) (ap (λ (s : Snap). s.rows) c.self.view_is) w valid c.requires
     c.in_ok-vertices.field-0 new made (ap (λ (x : Level). x.edges) c.in_ok-new.ensures.ok) (ap (λ (x : Level). arc_value x.change) c.in_ok-new.ensures.ok) (map arc_value c.in_ok-levels.levels.items) all
     (record { marks = c.push.new.self.items; weights = c.push-2.new.self.items }) (columns-here g c)
     c.wanted.inside.number n (the_view the_row c.vertices.inside) c.vertices.view_is (arc_value c.in_ok-try_clone.field-0) b
 
 pub invariant_of-result-2 : goal.invariant_of-result-2
-invariant_of-result-2 g c = (applied-here g c).snap
+invariant_of-result-2 g c = record { snap = (applied-here g c).snap; history = (applied-here g c).history }
 
 pub returns-clause-count : goal.returns-clause-count
 returns-clause-count g c = (applied-here g c).count
@@ -108,8 +109,8 @@ returns-clause-edges g c =
     let cols' : Columns = record { marks = c.push.new.self.items; weights = c.push-2.new.self.items } in
     let new = edges-records l' cols' (the_view the_row c.vertices.inside) after.snap.records_ok in
     let sum = after.snap.edges in
-    let old = edges-records (shown c.self.inside).layout (columns_of c.self.inside) c.self.inside.vertices c.self.invariant.records_ok in
-    let before = c.self.invariant.edges in
+    let old = edges-records (shown c.self.inside).layout (columns_of c.self.inside) c.self.inside.vertices c.self.invariant.snap.records_ok in
+    let before = c.self.invariant.snap.edges in
     let whole = after.whole in
     let is = ap (λ (s : Snap). edges_in s.rows) c.self.view_is in
     omega (arith, new, sum, old, before, whole, is)

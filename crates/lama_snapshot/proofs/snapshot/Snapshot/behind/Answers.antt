@@ -15,7 +15,7 @@ overflow_add-at c =
     let above : snap.layout.floor < at.level = omega (arith, floor, t) in
     let behind = place-behind snap.layout (length snap.rows) at.v at.level at.offset at.left c.requires in
     let within = tail-within snap.layout (length snap.rows) at.v at.level (at.offset + at.left) 0 behind above (omega arith) in
-    let few = (table-ok _ snap.layout at.level (ap (λ (s : Snap). s.layout.levels) c.self.view_is) c.self.invariant.tables above c.requires.within).few in
+    let few = (table-ok _ snap.layout at.level (ap (λ (s : Snap). s.layout.levels) c.self.view_is) c.self.invariant.snap.tables above c.requires.within).few in
     omega (arith, within, few)
 
 pub tail-slot-requires : goal.tail-slot-requires

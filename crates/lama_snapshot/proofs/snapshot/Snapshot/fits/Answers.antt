@@ -43,7 +43,7 @@ overflow_add-self-inside-2 c =
     let most = c.edges_at_most.ensures.0 c.if-not-edges_at_most.false in
     let two = c.edges_of-added.ensures in
     let added = two.added in let killed = two.killed in
-    let few = c.self.invariant.few in
+    let few = c.self.invariant.snap.few in
     let below : c.self.inside.edge_count + c.edges_of-added.result.0 < 2 ^ 32 = omega (arith, same, three, a, k, most, added, few) in
     record { fits = below }
 
@@ -56,7 +56,7 @@ overflow_add-killed c =
     let most = c.edges_at_most.ensures.0 c.if-not-edges_at_most.false in
     let two = c.edges_of-added.ensures in
     let added = two.added in let killed = two.killed in
-    let few = c.self.invariant.few in
+    let few = c.self.invariant.snap.few in
     let below : 33554432 + c.edges_of-added.result.1 < 2 ^ 32 = omega (arith, same, three, a, k, most, killed) in
     record { fits = below }
 
@@ -69,8 +69,8 @@ returns-then-self-added c =
     let most = c.edges_at_most.ensures.0 c.if-not-edges_at_most.false in
     let two = c.edges_of-added.ensures in
     let added = two.added in let killed = two.killed in
-    let few = c.self.invariant.few in
-    let e = c.self.invariant.edges ∙ (sym (edges-records (shown c.self.inside).layout (columns_of c.self.inside) c.self.inside.vertices c.self.invariant.records_ok) ∙ ap (λ (s : Snap). edges_in s.rows) c.self.view_is) in
+    let few = c.self.invariant.snap.few in
+    let e = c.self.invariant.snap.edges ∙ (sym (edges-records (shown c.self.inside).layout (columns_of c.self.inside) c.self.inside.vertices c.self.invariant.snap.records_ok) ∙ ap (λ (s : Snap). edges_in s.rows) c.self.view_is) in
     let more = c.if-self-added.true in
     (λ h. absurd (false≢true h), λ f. (let edges = f.edges in absurd (omega (arith, a, k, added, killed, e, more, edges))))
 
@@ -83,8 +83,8 @@ returns c =
     let most = c.edges_at_most.ensures.0 c.if-not-edges_at_most.false in
     let two = c.edges_of-added.ensures in
     let added = two.added in let killed = two.killed in
-    let few = c.self.invariant.few in
-    let e = c.self.invariant.edges ∙ (sym (edges-records (shown c.self.inside).layout (columns_of c.self.inside) c.self.inside.vertices c.self.invariant.records_ok) ∙ ap (λ (s : Snap). edges_in s.rows) c.self.view_is) in
+    let few = c.self.invariant.snap.few in
+    let e = c.self.invariant.snap.edges ∙ (sym (edges-records (shown c.self.inside).layout (columns_of c.self.inside) c.self.inside.vertices c.self.invariant.snap.records_ok) ∙ ap (λ (s : Snap). edges_in s.rows) c.self.view_is) in
     let n = length-rows_from (shown c.self.inside).layout (columns_of c.self.inside) c.self.inside.vertices in
     let is = ap (λ (s : Snap). length s.rows) c.self.view_is in
     let m = ap (λ (x : Change). x.count) c.change.view_is in

@@ -2,8 +2,11 @@ use Rattle.std.proofs.Common.{◌≡◌, ◌∙◌, ℕ, ◌≤◌, List, [], �
 use Rattle.std.specs.Arc.{arc_value}
 use Rattle.lama_model.specs.Row.{edges_in, AreTargetsBelow}
 use Rattle.lama_snapshot.specs.BaseRows.{Numbered, base_records, base_slots, base_weights}
-use Rattle.lama_snapshot.specs.Levels.{table_of}
+use Rattle.lama_snapshot.specs.Levels.{table_of, change_of}
 use Rattle.lama_snapshot.specs.Chains.{Table, rows_from}
+use Rattle.lama_model.specs.Change.{Change}
+use Rattle.lama_snapshot.specs.History.{IsHistory}
+use Rattle.lama_snapshot.proofs.HistoryAfter.{base-history}
 use Rattle.lama_snapshot.specs.Snap.{layout_of, IsSnap}
 use Rattle.lama_snapshot.proofs.BaseSnap.{base-snap}
 use Rattle.lama_snapshot.proofs.snapshot.Snapshot.from_base.Goals as goal
@@ -21,7 +24,12 @@ invariant_of-result c =
     let marks : replicate (length (base_slots b.rows)) 0 ∷ [] ≡ c.in_ok-hidden.hidden.items = sym (c.in_ok-hidden.ensures.items ∙ ap (λ x. x ∷ []) (c.in_ok-share.ensures ∙ (c.hidden.ensures ∙ ap (λ (x : Numbered). replicate (length (base_slots x.rows)) 0) floor))) in
     let weights : base_weights b.rows ∷ [] ≡ c.in_ok-weights.weights.items = sym (c.in_ok-weights.ensures.items ∙ ap (λ x. x ∷ []) (c.in_ok-share-2.ensures ∙ (c.weights.ensures ∙ ap (λ (x : Numbered). base_weights x.rows) floor))) in
     let P : ℕ × ℕ × List Table × List (List ℕ) × List (List ℕ) → Type 0 = λ p. IsSnap p.0 p.1 c.in_ok-vertices.vertices b p.2 (record { marks = p.3; weights = p.4 }) in
-    subst P (λ j. (n j, m j, none j, marks j, weights j)) h.1
+    let no_changes : [] ≡ map change_of (map arc_value c.new.result.items) = sym (ap (λ xs. map change_of (map arc_value xs)) c.new.ensures.items) in
+    let Q : List Table × List (List ℕ) × List (List ℕ) × List Change → Type 0 = λ p. IsHistory (layout_of b p.0) (record { marks = p.1; weights = p.2 }) c.in_ok-vertices.vertices p.3 in
+    record {
+      snap = subst P (λ j. (n j, m j, none j, marks j, weights j)) h.1;
+      history = subst Q (λ j. (none j, marks j, weights j, no_changes j)) (base-history b c.in_ok-vertices.vertices (edges_in b.rows) h.1 h.0);
+    }
 
 pub returns-clause-rows : goal.returns-clause-rows
 returns-clause-rows c =

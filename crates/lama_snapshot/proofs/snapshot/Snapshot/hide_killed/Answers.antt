@@ -11,7 +11,7 @@ pub by_table-requires : goal.by_table-requires
 by_table-requires g c =
     let rows = c.requires.0 in
     let found : c.args.found.now ≡ killed_slots c.args.self.now rows = c.requires.2 in
-    let knows : Known c.args.self.now = subst Known c.self.view_is (known c.self.inside c.self.invariant) in
+    let knows : Known c.args.self.now = subst Known c.self.view_is (known c.self.inside c.self.invariant.snap) in
     let columns : c.self.inside.hidden.items ≡ c.args.self.now.columns.marks = ap (λ (s : Snap). s.columns.marks) c.self.view_is in
     let ok = All-from_recursion (λ (p : ℕ × ℕ). p.0 < length c.args.self.now.columns.marks) (killed_slots c.args.self.now rows)
     (tables-below (λ (t : ℕ) (o : ℕ). o < length (get_or c.args.self.now.columns.marks t [])) (length c.args.self.now.columns.marks) (killed_slots c.args.self.now rows) (killed-in c.args.self.now knows rows c.requires.1)) in
@@ -22,7 +22,7 @@ pub hide_all-requires-clause-within : goal.hide_all-requires-clause-within
 hide_all-requires-clause-within g c = λ t lt.
     let rows = c.requires.0 in
     let found : c.args.found.now ≡ killed_slots c.args.self.now rows = c.requires.2 in
-    let knows : Known c.args.self.now = subst Known c.self.view_is (known c.self.inside c.self.invariant) in
+    let knows : Known c.args.self.now = subst Known c.self.view_is (known c.self.inside c.self.invariant.snap) in
     let columns : c.self.inside.hidden.items ≡ c.args.self.now.columns.marks = ap (λ (s : Snap). s.columns.marks) c.self.view_is in
     let here = in_table-all (λ (t : ℕ) (o : ℕ). IsIn c.args.self.now.columns.marks t o) t (killed_slots c.args.self.now rows) (killed-in c.args.self.now knows rows c.requires.1) in
     let ok : All (λ (o : ℕ). o < length (get_or c.args.self.now.columns.marks t [])) (in_table t (killed_slots c.args.self.now rows)) = All-weaker (λ (o : ℕ). IsIn c.args.self.now.columns.marks t o) (λ (o : ℕ). o < length (get_or c.args.self.now.columns.marks t [])) (λ o h. h.1) (in_table t (killed_slots c.args.self.now rows)) (All-from_recursion (λ (o : ℕ). IsIn c.args.self.now.columns.marks t o) (in_table t (killed_slots c.args.self.now rows)) here) in
@@ -35,7 +35,7 @@ pub returns-clause-marks : goal.returns-clause-marks
 returns-clause-marks g c =
     let rows = c.requires.0 in
     let found : c.args.found.now ≡ killed_slots c.args.self.now rows = c.requires.2 in
-    let knows : Known c.args.self.now = subst Known c.self.view_is (known c.self.inside c.self.invariant) in
+    let knows : Known c.args.self.now = subst Known c.self.view_is (known c.self.inside c.self.invariant.snap) in
     let columns : c.self.inside.hidden.items ≡ c.args.self.now.columns.marks = ap (λ (s : Snap). s.columns.marks) c.self.view_is in
     let lists : c.deref.result.now ≡ c.args.self.now.columns.marks = c.deref.ensures.value ∙ columns in
     let new = c.in_ok-hidden.hidden.items in

@@ -20,7 +20,7 @@ stands-at c =
 step-at : (c : goal.After-saturating_sub) → (let snap = c.args.self.now in let at = c.if-at-eq0.at in FragmentStep snap.layout snap.columns (length snap.rows) at.v at.level at.offset at.left)
 step-at c =
     let snap = c.args.self.now in let at = c.if-at-eq0.at in let h = stands-at c in
-    place-step c.self.inside snap c.self.view_is c.self.invariant at.v at.level at.offset at.left h.place h.some
+    place-step c.self.inside snap c.self.view_is c.self.invariant.snap at.v at.level at.offset at.left h.place h.some
 
 pub cell_at-requires-clause-few : goal.cell_at-requires-clause-few
 cell_at-requires-clause-few c = (step-at c).few

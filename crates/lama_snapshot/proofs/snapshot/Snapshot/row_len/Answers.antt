@@ -15,7 +15,7 @@ returns-then-v-len c =
     let len = c.len.ensures in
     let t = c.if-v-len.true in
     let lt : c.args.v < length records = omega (arith, len, t) in
-    (record-row l cols records c.args.v c.get.result lt (get_or_read records c.args.v c.get.result lt c.get.ensures no_record) (c.self.invariant.records_ok c.args.v lt)).degree
+    (record-row l cols records c.args.v c.get.result lt (get_or_read records c.args.v c.get.result lt c.get.ensures no_record) (c.self.invariant.snap.records_ok c.args.v lt)).degree
     ∙ ap (λ (s : Snap). length (row_at s.rows c.args.v)) c.self.view_is
 
 pub returns : goal.returns

@@ -12,21 +12,21 @@ use Rattle.lama_snapshot.proofs.snapshot.Snapshot.take_fragment.Goals.{then-stan
 pub stands-requires : goal.stands-requires
 stands-requires c =
     let snap = c.args.self.now in let at = c.args.start in let l = c.loop-left in
-    let step = place-step c.self.inside snap c.self.view_is c.self.invariant at.v at.level l.place l.left l.invariant.place c.loop-left-test.true in
+    let step = place-step c.self.inside snap c.self.view_is c.self.invariant.snap at.v at.level l.place l.left l.invariant.place c.loop-left-test.true in
     let same = l.invariant.marks ∙ ap (λ k. get_or snap.columns.marks k []) l.invariant.table in
     subst (λ (xs : List ℕ). l.place < length xs) (sym same) step.cell.mark
 
 pub overflow_add-place : goal.overflow_add-place
 overflow_add-place c =
     let snap = c.args.self.now in let at = c.args.start in let l = c.loop-left in
-    let step = place-step c.self.inside snap c.self.view_is c.self.invariant at.v at.level l.place l.left l.invariant.place c.loop-left-test.true in
+    let step = place-step c.self.inside snap c.self.view_is c.self.invariant.snap at.v at.level l.place l.left l.invariant.place c.loop-left-test.true in
     let n = step.few in
     omega (arith, n)
 
 pub loop-left-preserved : goal.loop-left-preserved
 loop-left-preserved c =
     let snap = c.args.self.now in let at = c.args.start in let l = c.loop-left in let n = c.saturating_sub-table.result in
-    let step = place-step c.self.inside snap c.self.view_is c.self.invariant at.v at.level l.place l.left l.invariant.place c.loop-left-test.true in
+    let step = place-step c.self.inside snap c.self.view_is c.self.invariant.snap at.v at.level l.place l.left l.invariant.place c.loop-left-test.true in
     let e = l.invariant.end in let some = c.loop-left-test.true in
     let same = l.invariant.marks ∙ ap (λ k. get_or snap.columns.marks k []) l.invariant.table in
     let sees : c.stands.result ≡ eqb (mark_at snap.columns (record { table = at.level - snap.layout.floor; place = l.place })) 0 = c.stands.ensures ∙ ap (λ xs. eqb (slice_index xs l.place) 0) same in

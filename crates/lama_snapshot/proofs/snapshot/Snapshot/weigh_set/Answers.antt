@@ -11,7 +11,7 @@ pub by_table-requires : goal.by_table-requires
 by_table-requires g c =
     let rows = c.requires.0 in
     let found : c.args.found.now ≡ set_slots c.args.self.now rows = c.requires.2 in
-    let knows : Known c.args.self.now = subst Known c.self.view_is (known c.self.inside c.self.invariant) in
+    let knows : Known c.args.self.now = subst Known c.self.view_is (known c.self.inside c.self.invariant.snap) in
     let columns : c.self.inside.weights.items ≡ c.args.self.now.columns.weights = ap (λ (s : Snap). s.columns.weights) c.self.view_is in
     let ok = All-from_recursion (λ (p : ℕ × (ℕ × ℕ)). p.0 < length c.args.self.now.columns.weights) (set_slots c.args.self.now rows)
     (tables-below (λ (t : ℕ) (p : ℕ × ℕ). p.0 < length (get_or c.args.self.now.columns.weights t [])) (length c.args.self.now.columns.weights) (set_slots c.args.self.now rows) (set-in c.args.self.now knows rows c.requires.1)) in
@@ -22,7 +22,7 @@ pub weigh_all-requires-clause-within : goal.weigh_all-requires-clause-within
 weigh_all-requires-clause-within g c = λ t lt.
     let rows = c.requires.0 in
     let found : c.args.found.now ≡ set_slots c.args.self.now rows = c.requires.2 in
-    let knows : Known c.args.self.now = subst Known c.self.view_is (known c.self.inside c.self.invariant) in
+    let knows : Known c.args.self.now = subst Known c.self.view_is (known c.self.inside c.self.invariant.snap) in
     let columns : c.self.inside.weights.items ≡ c.args.self.now.columns.weights = ap (λ (s : Snap). s.columns.weights) c.self.view_is in
     let here = in_table-all (λ (t : ℕ) (p : ℕ × ℕ). IsIn c.args.self.now.columns.weights t p.0) t (set_slots c.args.self.now rows) (set-in c.args.self.now knows rows c.requires.1) in
     let ok : All (λ (p : ℕ × ℕ). p.0 < length (get_or c.args.self.now.columns.weights t [])) (in_table t (set_slots c.args.self.now rows)) = All-weaker (λ (p : ℕ × ℕ). IsIn c.args.self.now.columns.weights t p.0) (λ (p : ℕ × ℕ). p.0 < length (get_or c.args.self.now.columns.weights t [])) (λ p h. h.1) (in_table t (set_slots c.args.self.now rows)) (All-from_recursion (λ (p : ℕ × ℕ). IsIn c.args.self.now.columns.weights t p.0) (in_table t (set_slots c.args.self.now rows)) here) in
@@ -35,7 +35,7 @@ pub returns-clause-weights : goal.returns-clause-weights
 returns-clause-weights g c =
     let rows = c.requires.0 in
     let found : c.args.found.now ≡ set_slots c.args.self.now rows = c.requires.2 in
-    let knows : Known c.args.self.now = subst Known c.self.view_is (known c.self.inside c.self.invariant) in
+    let knows : Known c.args.self.now = subst Known c.self.view_is (known c.self.inside c.self.invariant.snap) in
     let columns : c.self.inside.weights.items ≡ c.args.self.now.columns.weights = ap (λ (s : Snap). s.columns.weights) c.self.view_is in
     let lists : c.deref.result.now ≡ c.args.self.now.columns.weights = c.deref.ensures.value ∙ columns in
     let new = c.in_ok-weights.weights.items in

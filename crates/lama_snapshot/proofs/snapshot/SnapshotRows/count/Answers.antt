@@ -9,4 +9,4 @@ pub returns-clause-count : goal.returns-clause-count
 returns-clause-count c = c.len.ensures ∙ (sym (length-rows_from (shown c.self.inside).layout (columns_of c.self.inside) c.self.inside.vertices) ∙ ap (λ (s : Snap). length s.rows) c.self.view_is)
 
 pub returns-clause-targets : goal.returns-clause-targets
-returns-clause-targets c = subst (λ k. AreTargetsBelow k c.args.self.now.rows) (sym c.len.ensures) (subst (λ (s : Snap). AreTargetsBelow (length c.self.inside.vertices) s.rows) c.self.view_is c.self.invariant.targets)
+returns-clause-targets c = subst (λ k. AreTargetsBelow k c.args.self.now.rows) (sym c.len.ensures) (subst (λ (s : Snap). AreTargetsBelow (length c.self.inside.vertices) s.rows) c.self.view_is c.self.invariant.snap.targets)

@@ -23,5 +23,5 @@ returns c =
     let is = ap (λ (s : Snap). length s.rows) c.self.view_is in
     let r = c.requires in
     let lt : c.args.v < length records = omega (arith, n, is, r) in
-    (record-row l cols records c.args.v c.get.result lt (get_or_read records c.args.v c.get.result lt c.get.ensures no_record) (c.self.invariant.records_ok c.args.v lt)).degree
+    (record-row l cols records c.args.v c.get.result lt (get_or_read records c.args.v c.get.result lt c.get.ensures no_record) (c.self.invariant.snap.records_ok c.args.v lt)).degree
     ∙ ap (λ (s : Snap). length (row_at s.rows c.args.v)) c.self.view_is

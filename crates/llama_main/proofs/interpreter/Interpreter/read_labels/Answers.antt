@@ -1,7 +1,7 @@
 use Rattle.std.proofs.Common.{◌++◌, length, ap, sym, subst, ◌∙◌, arith}
 use Rattle.std.proofs.lemmas.Result.{on_ok_weaker}
 use Rattle.lama_model.specs.Opening.{empty_opening}
-use Rattle.lama_model.specs.Journal.{graph_of}
+use Rattle.lama_model.specs.Journal.{graph_of, floor_of}
 use Rattle.lama_model.specs.Labels.{AreFirst, labels}
 use Rattle.lama_model.specs.Lines.{labels_text}
 use Rattle.lama_model.specs.Row.{graph_of_rows}
@@ -31,5 +31,5 @@ returns-clause-printed g c =
     let same =
     ap (λ k. labels_text k c.deref.result.now c.args.sum) c.number.ensures.is
     ∙ (ap (λ ls. labels_text c.args.snapshot.now.number ls c.args.sum) found
-    ∙ labels-read graph c.args.snapshot.now.number c.args.sum) in
+    ∙ labels-read (graph_of empty_opening c.args.self.now.store.standing) (floor_of empty_opening c.args.self.now.store.standing c.args.snapshot.now.number) c.args.snapshot.now.number c.args.sum) in
     on_ok_weaker c.print_labels.result (λ h. h ∙ ap (λ xs. c.args.self.now.out.items ++ xs) same) c.print_labels.ensures.ok

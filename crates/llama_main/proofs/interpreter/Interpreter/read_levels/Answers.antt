@@ -1,7 +1,7 @@
 use Rattle.std.proofs.Common.{◌++◌, length, ap, ◌∙◌, arith}
 use Rattle.std.proofs.lemmas.Result.{on_ok_weaker}
 use Rattle.lama_model.specs.Opening.{empty_opening}
-use Rattle.lama_model.specs.Journal.{graph_of}
+use Rattle.lama_model.specs.Journal.{graph_of, floor_of}
 use Rattle.lama_model.specs.Levels.{levels}
 use Rattle.lama_model.specs.Lines.{levels_text}
 use Rattle.lama_model.specs.Row.{edges_in, graph_of_rows}
@@ -40,11 +40,11 @@ returns-in_ok-found-clause-printed g c =
     let same =
     ap (λ k. levels_text k c.args.s c.deref.result.now c.args.sum) c.number.ensures.is
     ∙ (ap (λ ls. levels_text c.args.snapshot.now.number c.args.s ls c.args.sum) found
-    ∙ levels-read graph rows c.args.snapshot.now.number c.args.s c.args.sum c.requires.rows.rows c.requires.rows.graph.is (omega (arith, lt, count, many))) in
+    ∙ levels-read (graph_of empty_opening c.args.self.now.store.standing) (floor_of empty_opening c.args.self.now.store.standing c.args.snapshot.now.number) rows c.args.snapshot.now.number c.args.s c.args.sum c.requires.rows.rows c.requires.rows.graph.is (omega (arith, lt, count, many))) in
     on_ok_weaker c.print_levels.result (λ h. h ∙ ap (λ xs. c.args.self.now.out.items ++ xs) same) c.print_levels.ensures.ok
 
 pub returns-else-s-count-clause-printed : goal.returns-else-s-count-clause-printed
 returns-else-s-count-clause-printed g c =
     let graph = graph_of empty_opening c.args.self.now.store.standing c.args.snapshot.now.number in
-    let same = levels-refused graph c.count-count.result c.args.snapshot.now.number c.args.s c.args.sum (c.count-count.ensures.count ∙ c.requires.rows.rows.count) c.if-s-count.false in
+    let same = levels-refused (graph_of empty_opening c.args.self.now.store.standing) (floor_of empty_opening c.args.self.now.store.standing c.args.snapshot.now.number) c.count-count.result c.args.snapshot.now.number c.args.s c.args.sum (c.count-count.ensures.count ∙ c.requires.rows.rows.count) c.if-s-count.false in
     on_ok_weaker c.refuse_vertex.result (λ h. h ∙ ap (λ xs. c.args.self.now.out.items ++ xs) same) c.refuse_vertex.ensures.printed

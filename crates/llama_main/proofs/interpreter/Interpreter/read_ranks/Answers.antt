@@ -1,7 +1,7 @@
 use Rattle.std.proofs.Common.{◌++◌, length, ap, ◌∙◌, arith}
 use Rattle.std.proofs.lemmas.Result.{on_ok_weaker}
 use Rattle.lama_model.specs.Opening.{empty_opening}
-use Rattle.lama_model.specs.Journal.{graph_of}
+use Rattle.lama_model.specs.Journal.{graph_of, floor_of}
 use Rattle.lama_model.specs.Ranks.{ranks}
 use Rattle.lama_model.specs.Lines.{ranks_text}
 use Rattle.lama_model.specs.Row.{graph_of_rows}
@@ -28,5 +28,5 @@ returns-clause-printed g c =
     let same =
     ap (λ k. ranks_text k c.args.rounds c.deref.result.now c.args.sum) c.number.ensures.is
     ∙ (ap (λ rs. ranks_text c.args.snapshot.now.number c.args.rounds rs c.args.sum) found
-    ∙ ranks-read graph rows c.requires.rows.rows c.requires.rows.graph.is c.args.snapshot.now.number c.args.rounds c.args.sum) in
+    ∙ ranks-read (graph_of empty_opening c.args.self.now.store.standing) (floor_of empty_opening c.args.self.now.store.standing c.args.snapshot.now.number) c.args.snapshot.now.number rows c.requires.rows.rows c.requires.rows.graph.is c.args.rounds c.args.sum) in
     on_ok_weaker c.print_rank.result (λ h. h ∙ ap (λ xs. c.args.self.now.out.items ++ xs) same) c.print_rank.ensures.ok

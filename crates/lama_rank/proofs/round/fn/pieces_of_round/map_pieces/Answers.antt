@@ -1,4 +1,4 @@
-use Rattle.std.proofs.Common.{◌≡◌, ◌∙◌, ap, length, subst, sym}
+use Rattle.std.proofs.Common.{◌∙◌, ap, length, subst, sym}
 use Rattle.std.proofs.lemmas.List.{get_or-map}
 use Rattle.lama_rank.specs.Rounds.{AreInPiece}
 use Rattle.lama_rank.proofs.round.fn.pieces_of_round.map_pieces.Goals as goal

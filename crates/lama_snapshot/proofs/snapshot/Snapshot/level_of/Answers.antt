@@ -10,7 +10,7 @@ use Rattle.lama_snapshot.specs.Levels.{table_of, change_of}
 use Rattle.lama_snapshot.specs.Snap.{Snap}
 use Rattle.lama_snapshot.specs.BaseRows.{Numbered}
 use Rattle.lama_snapshot.proofs.ChainLemmas.{get-map-map}
-use Rattle.lama_snapshot.proofs.snapshot.Snapshot.change.Goals as goal
+use Rattle.lama_snapshot.proofs.snapshot.Snapshot.level_of.Goals as goal
 
 pub returns : goal.returns
 returns c =
@@ -21,7 +21,7 @@ returns c =
     let a : ℕ = k - c.number.result - 1 in
     let base : Numbered = arc_value c.self.inside.base in
     let size : length (map table_of (map arc_value c.self.inside.levels.items)) ≡ length c.self.inside.levels.items = length-map (map arc_value c.self.inside.levels.items) table_of ∙ length-map c.self.inside.levels.items arc_value in
-    let is = c.self.invariant.number_is in
+    let is = c.self.invariant.snap.number_is in
     let n = ap (λ (s : Snap). s.number) c.self.view_is in
     let m = ap (λ (s : Snap). s.base.number) c.self.view_is in
     let lt : a < length c.self.inside.levels.items = omega (arith, b, below, most, size, is, n, m) in
@@ -29,5 +29,5 @@ returns c =
     let i : ℕ = k - c.args.self.now.base.number - 1 in
     let place : a ≡ i = ap (λ x. k - x - 1) b in
     let all : List Change = map change_of (map arc_value c.self.inside.levels.items) in
-    c.deref.ensures ∙ (ap (λ (l : Level). arc_value l.change) c.deref-level.ensures ∙ (ap (λ (x : Arc Level Global). change_of (arc_value x)) c.index.ensures
-    ∙ (sym at ∙ (ap (λ j. get_or all j no_change) place ∙ ap (λ (s : Snap). get_or s.changes i no_change) c.self.view_is))))
+    ap change_of c.deref.ensures ∙ (ap (λ (x : Arc Level Global). change_of (arc_value x)) c.index.ensures
+    ∙ (sym at ∙ (ap (λ j. get_or all j no_change) place ∙ ap (λ (s : Snap). get_or s.changes i no_change) c.self.view_is)))
