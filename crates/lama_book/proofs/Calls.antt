@@ -22,7 +22,7 @@ use Rattle.lama_model.specs.Opening.{Opening, opening_of}
 use Rattle.lama_model.specs.Journal.{newest_of, reply, reply_at, is_accepted, edges_added}
 use Rattle.lama_model.specs.declared.calls.Write.{Write}
 use Rattle.lama_model.specs.declared.calls.Call.{Call}
-use Rattle.lama_model.specs.declared.calls.Call.TheVariants.{Write as Writes, Checkpoint, LookAt, Retire}
+use Rattle.lama_model.specs.declared.calls.Call.TheVariants.{Write as Writes, Checkpoint, LookAt, Install, Retire}
 use Rattle.lama_model.specs.declared.calls.Entry.{Entry}
 use Rattle.lama_model.specs.declared.answers.Reply.{Reply}
 use Rattle.lama_model.specs.declared.answers.Reply.TheVariants.{Accepted, Count, Snapshot, Kept, Refused}
@@ -80,6 +80,14 @@ pub retire-found : (b : Book) (k : ℕ) → b.oldest ≤ k → k ≤ newest_numb
 unfolding reply_at
 retire-found b k low high = kept-found b k (newest_of (opening_of (newest_number b) no_graph) (brief b.count b.added b.oldest)) (λ n. Kept k n) (newest-brief b) low high
 
+pub install-refused : (b : Book) (k : ℕ) → (k < b.oldest) ⊎ (newest_number b < k) → answers b (Install k) ≡ Refused (NoSnapshot k b.oldest (newest_number b))
+unfolding reply_at
+install-refused b k out = kept-refused b k (newest_of (opening_of (newest_number b) no_graph) (brief b.count b.added b.oldest)) (λ n. Snapshot k) (newest-brief b) out
+
+pub install-found : (b : Book) (k : ℕ) → b.oldest ≤ k → k ≤ newest_number b → answers b (Install k) ≡ Snapshot k
+unfolding reply_at
+install-found b k low high = kept-found b k (newest_of (opening_of (newest_number b) no_graph) (brief b.count b.added b.oldest)) (λ n. Snapshot k) (newest-brief b) low high
+
 -- the replies to checkpoints
 pub checkpoint-numbers : (b : Book) → 100000000 ≤ newest_number b → answers b Checkpoint ≡ Refused FullNumbers
 unfolding reply_at
@@ -134,6 +142,7 @@ write-whole b w journal spare h accepted calls =
       last = h.last;
       grows = omega (arith, grows, up);
       room = omega (arith, room, more);
+      run = h.run;
     }
 
 -- the next snapshot, and then the entry

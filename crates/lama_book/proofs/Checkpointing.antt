@@ -19,9 +19,11 @@ use Rattle.lama_snapshot.specs.BaseRows.{Numbered}
 use Rattle.lama_snapshot.specs.Snap as snap
 use Rattle.lama_snapshot.specs.Snap.{Snap, change_at, no_snap}
 use Rattle.lama_book.specs.Book.{Book, last_snap, newest_number, answers, next_change, HasCheckpoint, IsNext}
+use Rattle.std.specs.Prelude.{All}
 use Rattle.lama_book.specs.Relation.{IsSnapshotOf, Agrees, IsBookOf}
 use Rattle.lama_book.proofs.Answering.{answers-reply, newest-is}
-use Rattle.lama_book.proofs.Keeping.{floor-first, snapshot-extends, after-accepted}
+use Rattle.lama_book.proofs.Floors.{floor-above, installed-within}
+use Rattle.lama_book.proofs.Keeping.{snapshot-extends, after-accepted}
 
 -- the change of the new number
 change-new : (o : Opening) (s : Standing) → IsStanding o s → change_of o (done Checkpoint s) (newest_of o s + 1) ≡ change_between (graph_of o s (newest_of o s)) s.pending (newest_of o s + 1)
@@ -63,14 +65,14 @@ next-rows b x g s next pending count stands of is = record {
 }
 
 -- the next snapshot is that of the next number
-next-snapshot : (o : Opening) (b : Book) (x : Snap) (s : Standing) → IsSound o s → IsOpening o → s.installed ≡ [] → IsNext b x → b.pending ≡ s.pending → b.count ≡ s.graph.count → newest_number b ≡ newest_of o s →
+next-snapshot : (o : Opening) (b : Book) (x : Snap) (s : Standing) → IsSound o s → IsOpening o → All (λ i. i ≤ newest_of o s) s.installed → IsNext b x → b.pending ≡ s.pending → b.count ≡ s.graph.count → newest_number b ≡ newest_of o s →
     IsSnapshotOf o s (newest_of o s) (last_snap b) → IsSnapshotOf o (done Checkpoint s) (newest_of o s + 1) x
-next-snapshot o b x s sd is none next pending count n old =
+next-snapshot o b x s sd is installed next pending count n old =
     let t = done Checkpoint s in
     let m = newest_of o s in
     let g = graph_of o s m in
     let ext = extends-done o s Checkpoint in
-    let f : floor_of o s m ≡ floor_of o t (m + 1) = floor-first o s m none ∙ sym (floor-first o t (m + 1) none) in
+    let f : floor_of o s m ≡ floor_of o t (m + 1) = floor-above o s m (m + 1) (omega arith) installed in
     let len = old.len in
     let size : length x.changes ≡ length (last_snap b).changes + 1 = ap length next.changes ∙ length_push (last_snap b).changes (next_change b) in
     let base : (last_snap b).base ≡ x.base = sym next.base in
@@ -124,9 +126,8 @@ checkpoint-stays o b b' e h call accepted of =
       count_is = of.count_is;
       added_is = of.added_is;
       oldest_is = of.oldest_is;
-      none_installed = of.none_installed;
       numbers = omega (arith, numbers, size, more);
-      each = λ k low high. each-at k low (omega (arith, high, more)) (next-snapshot o b x s sd of.is of.none_installed h.next of.pending_is of.count_is n (subst (IsSnapshotOf o s (newest_of o s)) last (of.each (newest_of o s) from (omega arith)))) (cases_lt k (newest_of o s + 1));
+      each = λ k low high. each-at k low (omega (arith, high, more)) (next-snapshot o b x s sd of.is (installed-within o of.is b.journal) h.next of.pending_is of.count_is n (subst (IsSnapshotOf o s (newest_of o s)) last (of.each (newest_of o s) from (omega arith)))) (cases_lt k (newest_of o s + 1));
     }))
   where
     s : Standing
@@ -146,7 +147,7 @@ checkpoint-stays o b b' e h call accepted of =
         let numbers = of.numbers in
         let old = of.oldest_is in
         subst (IsSnapshotOf o (done Checkpoint (standing o b.journal)) k) (sym (get_or_append_left b.kept (last_snap b' ∷ []) no_snap (k - (standing o b.journal).oldest) (omega (arith, numbers, old, low, lt))))
-        (snapshot-extends o (standing o b.journal) (done Checkpoint (standing o b.journal)) k (get_or b.kept (k - (standing o b.journal).oldest) no_snap) (extends-done o (standing o b.journal) Checkpoint) sd.is.written of.none_installed of.none_installed (omega (arith, lt)) (of.each k low (omega (arith, lt))))
+        (snapshot-extends o (standing o b.journal) (done Checkpoint (standing o b.journal)) k (get_or b.kept (k - (standing o b.journal).oldest) no_snap) (extends-done o (standing o b.journal) Checkpoint) sd.is.written refl (omega (arith, lt)) (of.each k low (omega (arith, lt))))
     each-at k low high new (inr ge) =
         let numbers = of.numbers in
         let old = of.oldest_is in

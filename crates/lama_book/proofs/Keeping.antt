@@ -53,14 +53,14 @@ after-accepted o s call is = ap (λ b. cond b (done call s) s) is
 pub refused-stays : (o : Opening) (b b' : Book) (e : Entry) (r : Refusal) → HasEntry b b' e → answers b e.call ≡ Refused r → IsBookOf o b → IsBookOf o b'
 refused-stays o b b' e r h is of = stays o b b' e h (after-refused o (standing o b.journal) e.call r (sym (answers-reply o b of e.call) ∙ is)) of
 
--- without an install all floors are the opening's
-pub floor-first : (o : Opening) (s : Standing) (k : ℕ) → s.installed ≡ [] → floor_of o s k ≡ first_number o
-floor-first o s k none = ap (λ ks. fold (λ f i. cond (leb i k) (max f i) f) (first_number o) ks) none
+-- without an install more all floors are as they were
+floor-same : (o : Opening) (s t : Standing) (k : ℕ) → t.installed ≡ s.installed → floor_of o s k ≡ floor_of o t k
+floor-same o s t k same = ap (λ ks. fold (λ f i. cond (leb i k) (max f i) f) (first_number o) ks) (sym same)
 
 -- a snapshot stays that of its number where more stands
-pub snapshot-extends : (o : Opening) (s t : Standing) (k : ℕ) (x : Snap) → Extends o s t → length s.written ≡ length s.made → s.installed ≡ [] → t.installed ≡ [] → k ≤ newest_of o s → IsSnapshotOf o s k x → IsSnapshotOf o t k x
-snapshot-extends o s t k x ext same none none' le h =
-    let f : floor_of o s k ≡ floor_of o t k = floor-first o s k none ∙ sym (floor-first o t k none') in
+pub snapshot-extends : (o : Opening) (s t : Standing) (k : ℕ) (x : Snap) → Extends o s t → length s.written ≡ length s.made → t.installed ≡ s.installed → k ≤ newest_of o s → IsSnapshotOf o s k x → IsSnapshotOf o t k x
+snapshot-extends o s t k x ext same floors le h =
+    let f : floor_of o s k ≡ floor_of o t k = floor-same o s t k floors in
     let len = h.len in
     record {
       number = h.number;
@@ -87,9 +87,8 @@ write-stays o b b' w e h call accepted of =
       count_is = effect-counts w s.graph b.count of.count_is;
       added_is = ap (λ n. n + edges_added w) of.added_is;
       oldest_is = of.oldest_is;
-      none_installed = of.none_installed;
       numbers = of.numbers;
-      each = λ k low high. snapshot-extends o s (done (Writes w) s) k (get_or b.kept (k - s.oldest) no_snap) (extends-done o s (Writes w)) (is_standing o of.is b.journal).written of.none_installed of.none_installed high (of.each k low high);
+      each = λ k low high. snapshot-extends o s (done (Writes w) s) k (get_or b.kept (k - s.oldest) no_snap) (extends-done o s (Writes w)) (is_standing o of.is b.journal).written refl high (of.each k low high);
     }))
   where
     s : Standing

@@ -1,6 +1,8 @@
 pub mod OpeningLemmas
 pub mod Answering
+pub mod Floors
 pub mod Keeping
+pub mod Installing
 pub mod Kept
 pub mod Checkpointing
 pub mod Calls

@@ -1,10 +1,10 @@
 -- A snapshot that a book may begin with.
-use Rattle.std.proofs.Common.{◌≡◌, ◌∙◌, ℕ, zero, suc, ◌-◌, ◌<◌, ◌≤◌, List, [], ◌∷◌, length, take, get_or, refl, sym, ap, subst, arith, true, cond, leb}
+use Rattle.std.proofs.Common.{◌≡◌, ◌∙◌, ℕ, zero, suc, ◌+◌, ◌-◌, ◌<◌, ◌≤◌, List, [], ◌∷◌, length, take, get_or, refl, sym, ap, subst, arith, true, cond, leb}
 use Rattle.std.specs.Prelude.{All}
 use Rattle.std.proofs.lemmas.Bool.Decides.{nat_tests}
 use Rattle.std.proofs.lemmas.List.Elements.{All-nil, All-weaker}
 use Rattle.lama_base.specs.declared.Edge.{Edge}
-use Rattle.lama_model.specs.Graph.{Graph, IsGraph, no_graph}
+use Rattle.lama_model.specs.Graph.{Graph, IsGraph, IsNamedBelow, no_graph}
 use Rattle.lama_model.specs.Row.{AreRowsOf, edges_in}
 use Rattle.lama_model.specs.Change.{IsChange}
 use Rattle.lama_model.specs.Opening.{Opening, last_number, opening_graph, opening_of, with_changes}
@@ -14,6 +14,9 @@ use Rattle.lama_model.specs.declared.calls.Write.{Write}
 use Rattle.lama_model.proofs.Counting.{edges-counted}
 use Rattle.lama_snapshot.specs.BaseRows.{Numbered}
 use Rattle.lama_snapshot.specs.Snap.{Snap, no_snap}
+use Rattle.lama_snapshot.specs.Snap as snap
+use Rattle.lama_merge.proofs.Runs.{single}
+use Rattle.lama_book.specs.Book.{Book, IsWhole}
 use Rattle.lama_book.specs.Relation.{IsSnapshotOf, Agrees, Opens}
 
 -- the sources of a graph are below its count
@@ -86,7 +89,6 @@ begins o x count added oldest h c a n =
       count_is = c ∙ k;
       added_is = a ∙ counted;
       oldest_is = n ∙ (number ∙ sym one);
-      none_installed = refl;
       numbers = omega (arith, n, number);
       each = λ k low high. (let last : last_number o ≡ k = omega (arith, low, high, one) in let place : 0 ≡ k - o.oldest = omega (arith, low, high, one) in
           subst (λ i. IsSnapshotOf o (begun o) k (get_or (x ∷ []) i no_snap)) place (subst (λ i. IsSnapshotOf o (begun o) i x) last h.snapshot));
@@ -98,3 +100,22 @@ new-book o x journal kept pending count added oldest h none one nothing c a n =
     let start : begun o ≡ standing o journal = sym (ap (standing o) none ∙ standing-none o) in
     let P : Standing × List Snap × List Write → Type 0 = λ p. Agrees o p.0 p.1 p.2 count added oldest in
     subst P (λ j. (start j, sym one j, sym nothing j)) (begins o x count added oldest h c a n)
+
+-- and the book is whole
+pub new-whole : (x : Snap) (spare : ℕ) (journal : List Entry) (kept : List Snap) (pending : List Write) (count added oldest : ℕ) → journal ≡ [] → kept ≡ x ∷ [] → pending ≡ [] → count ≡ length x.rows → added ≡ edges_in x.rows → oldest ≡ x.number →
+    length x.changes + snap.floor_of x ≡ x.number → x.number ≤ 100000000 → length x.rows ≤ 4194304 → edges_in x.rows ≤ 33554432 → (let n : Book = record { journal = journal; kept = kept; pending = pending; spare = spare; count = count; added = added; oldest = oldest } in IsWhole n)
+new-whole x spare journal kept pending count added oldest none one nothing c a o size number vertices edges =
+    let P : List Entry × List Snap × List Write × ℕ × ℕ × ℕ → Type 0 = λ p. (let n : Book = record { journal = p.0; kept = p.1; pending = p.2; spare = spare; count = p.3; added = p.4; oldest = p.5 } in IsWhole n) in
+    subst P (λ j. (sym none j, sym one j, sym nothing j, sym c j, sym a j, sym o j)) (record {
+      few_calls = omega arith;
+      some_kept = omega arith;
+      few_kept = omega arith;
+      number = omega (arith, number);
+      few_vertices = vertices;
+      few_added = edges;
+      named = All-nil (IsNamedBelow (length x.rows));
+      last = omega arith;
+      grows = omega arith;
+      room = omega arith;
+      run = single x size;
+    })

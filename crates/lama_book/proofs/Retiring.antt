@@ -1,5 +1,5 @@
 -- A retirement: what is answered, and what is kept after it.
-use Rattle.std.proofs.Common.{◌≡◌, ◌∙◌, ℕ, ◌+◌, ◌-◌, ◌<◌, ◌≤◌, List, [], ◌∷◌, ◌++◌, length, get_or, map, drop, take, max, sym, ap, subst, arith}
+use Rattle.std.proofs.Common.{◌≡◌, ◌∙◌, ℕ, ◌+◌, ◌-◌, ◌<◌, ◌≤◌, List, [], ◌∷◌, ◌++◌, length, get_or, map, drop, take, max, refl, sym, ap, subst, arith}
 use Rattle.std.proofs.Math.Seq.{take-append_seam}
 use Rattle.std.proofs.lemmas.List.{length-drop, get_or-drop, drop-map}
 use Rattle.std.specs.Prelude.{sum_by}
@@ -13,6 +13,7 @@ use Rattle.lama_model.proofs.JournalLaws.{extends-done}
 use Rattle.lama_snapshot.specs.Snap.{Snap, no_snap}
 use Rattle.lama_book.specs.Book.{Book, newest_number, last_snap, IsWhole, HasEntry, IsForgotten, HasRetired}
 use Rattle.lama_book.specs.Relation.{IsSnapshotOf, Agrees, IsBookOf}
+use Rattle.lama_merge.proofs.Runs.{rest}
 use Rattle.lama_book.proofs.Answering.{answers-reply}
 use Rattle.lama_book.proofs.Keeping.{snapshot-extends, after-accepted}
 use Rattle.lama_book.proofs.Calls.{retire-found}
@@ -43,6 +44,7 @@ forgotten-whole b k h low high =
       last = subst (λ (x : Snap). x.number + 1 ≡ k + length (drop (k - b.oldest) b.kept)) (sym same) (omega (arith, was, size, low, high, some));
       grows = subst (λ (x : Snap). length x.rows ≤ b.count) (sym same) h.grows;
       room = subst (λ (x : Snap). edges_in x.rows + sum_by edges_added b.pending ≤ b.added) (sym same) h.room;
+      run = rest b.kept (k - b.oldest) (omega (arith, low, high, some)) h.run;
     }
 
 -- the snapshots that go, and then the entry
@@ -65,7 +67,6 @@ retire-stays o b b' k e h call low high of =
       count_is = of.count_is;
       added_is = of.added_is;
       oldest_is = let was = of.oldest_is in omega (arith, was, low);
-      none_installed = of.none_installed;
       numbers = let size = length-drop (k - b.oldest) b.kept in let numbers = of.numbers in omega (arith, size, numbers, low, high);
       each = λ j from upto. at j from upto;
     }))
@@ -83,7 +84,7 @@ retire-stays o b b' k e h call low high of =
         ap (λ i. get_or b.kept i no_snap) (let e : j - s.oldest ≡ k - b.oldest + (j - max s.oldest k) = omega (arith, was, low, from) in e)
         ∙ sym (get_or-drop (k - b.oldest) b.kept (j - max s.oldest k) no_snap) in
         subst (IsSnapshotOf o (done (Retire k) s) j) here
-        (snapshot-extends o s (done (Retire k) s) j (get_or b.kept (j - s.oldest) no_snap) (extends-done o s (Retire k)) (is_standing o of.is b.journal).written of.none_installed of.none_installed upto
+        (snapshot-extends o s (done (Retire k) s) j (get_or b.kept (j - s.oldest) no_snap) (extends-done o s (Retire k)) (is_standing o of.is b.journal).written refl upto
         (of.each j (omega (arith, from)) upto))
 
 -- what is left of a list that was turned round by so many and cut

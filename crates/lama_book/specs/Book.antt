@@ -9,7 +9,9 @@ use Rattle.lama_model.specs.declared.calls.Write.{Write}
 use Rattle.lama_model.specs.declared.calls.Call.{Call}
 use Rattle.lama_model.specs.declared.calls.Entry.{Entry}
 use Rattle.lama_model.specs.declared.answers.Reply.{Reply}
+use Rattle.lama_snapshot.specs.BaseRows.{Numbered}
 use Rattle.lama_snapshot.specs.Snap.{Snap, no_snap}
+use Rattle.lama_merge.specs.Rebase.{snap_of, AreOneRun, IsRebased}
 
 -- a book: the calls so far, the kept snapshots and the writes that wait, all oldest first; how many calls more take no memory of their own; the vertices and the added edges where it stands; and the oldest number that is kept
 pub record Book : Type 0 where
@@ -33,7 +35,7 @@ last_snap b = slice_index_or b.kept (length b.kept - 1) no_snap
 abbrev pub snap_at : Book → ℕ → Snap
 snap_at b k = slice_index_or b.kept (k - b.oldest) no_snap
 
--- its numbers agree and are within their limits
+-- its numbers agree and are within their limits, and its snapshots are of one run
 pub record IsWhole (b : Book) : Type 0 where
   pub few_calls : length b.journal ≤ 4194304
   pub some_kept : 0 < length b.kept
@@ -45,6 +47,7 @@ pub record IsWhole (b : Book) : Type 0 where
   pub last : (last_snap b).number + 1 ≡ b.oldest + length b.kept
   pub grows : length (last_snap b).rows ≤ b.count
   pub room : edges_in (last_snap b).rows + sum_by edges_added b.pending ≤ b.added
+  pub run : AreOneRun b.kept
 
 -- two books are the same, but that the second may have more room
 pub record IsRoomier (old new : Book) : Type 0 where
@@ -108,6 +111,19 @@ pub record HasNext (old new : Book) : Type 0 where
 pub record HasCheckpoint (old new : Book) (e : Entry) : Type 0 where
   pub next : IsNext old (last_snap new)
   pub book : new ≡ record old { journal = old.journal ++ e ∷ []; kept = old.kept ++ last_snap new ∷ []; pending = []; spare = new.spare }
+  pub spare : old.spare ≤ new.spare + 1
+
+-- the kept snapshots are put onto a merged base
+pub record IsOnto (old new : Book) (m : Numbered) : Type 0 where
+  pub book : new ≡ record old { kept = new.kept }
+  pub len : length new.kept ≡ length old.kept
+  pub each : (i : ℕ) → i < length old.kept → IsRebased m (snap_of old.kept i) (snap_of new.kept i)
+
+-- and an entry more
+pub record HasInstalled (old new : Book) (m : Numbered) (e : Entry) : Type 0 where
+  pub book : new ≡ record old { journal = old.journal ++ e ∷ []; kept = new.kept; spare = new.spare }
+  pub len : length new.kept ≡ length old.kept
+  pub each : (i : ℕ) → i < length old.kept → IsRebased m (snap_of old.kept i) (snap_of new.kept i)
   pub spare : old.spare ≤ new.spare + 1
 
 -- the snapshots before that of the number k are let go

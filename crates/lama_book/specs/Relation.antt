@@ -1,9 +1,10 @@
 -- When a book stands for an opening and the calls since.
-use Rattle.std.specs.Prelude.{◌≡◌, ℕ, ◌+◌, ◌-◌, ◌<◌, ◌≤◌, List, [], length, slice_index_or}
+use Rattle.std.specs.Prelude.{◌≡◌, ℕ, ◌+◌, ◌-◌, ◌<◌, ◌≤◌, List, length, slice_index_or}
 use Rattle.lama_model.specs.Row.{AreRowsOf}
 use Rattle.lama_model.specs.Opening.{Opening, IsOpening, last_number}
 use Rattle.lama_model.specs.Journal.{Standing, begun, standing, newest_of, graph_of, change_of, floor_of}
 use Rattle.lama_model.specs.declared.calls.Write.{Write}
+use Rattle.lama_snapshot.specs.BaseRows.{Numbered}
 use Rattle.lama_snapshot.specs.Snap as snap
 use Rattle.lama_snapshot.specs.Snap.{Snap, change_at, no_snap}
 use Rattle.lama_book.specs.Book.{Book}
@@ -30,9 +31,13 @@ pub record Agrees (o : Opening) (s : Standing) (kept : List Snap) (pending : Lis
   pub count_is : count ≡ s.graph.count
   pub added_is : added ≡ s.added
   pub oldest_is : oldest ≡ s.oldest
-  pub none_installed : s.installed ≡ []
   pub numbers : oldest + length kept ≡ newest_of o s + 1
   pub each : (k : ℕ) → s.oldest ≤ k → k ≤ newest_of o s → IsSnapshotOf o s k (slice_index_or kept (k - s.oldest) no_snap)
+
+-- a merged base has the number and the rows of a graph that is there
+pub record IsMergedOf (o : Opening) (s : Standing) (m : Numbered) : Type 0 where
+  pub number : m.number ≤ newest_of o s
+  pub rows : AreRowsOf m.rows (graph_of o s m.number)
 
 -- the book stands for the opening and its journal
 abbrev pub IsBookOf : Opening → Book → Type 0

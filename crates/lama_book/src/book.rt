@@ -4,18 +4,19 @@ ghost use Rattle.lama_model.specs.Bounds.{checkpoint_pages};
 ghost use Rattle.lama_model.specs.Opening.{Opening as ModelOpening};
 ghost use Rattle.lama_model.specs.Journal.{Standing, reply, is_accepted, edges_added, with_ends};
 ghost use Rattle.lama_model.specs.Graph.{effect};
-ghost use Rattle.lama_model.specs.declared.calls.Call.TheVariants.{Write as SeenWrite, Checkpoint as SeenCheckpoint, Look as SeenLook, LookAt as SeenLookAt, Retire as SeenRetire};
+ghost use Rattle.lama_model.specs.declared.calls.Call.TheVariants.{Write as SeenWrite, Checkpoint as SeenCheckpoint, Look as SeenLook, LookAt as SeenLookAt, Install as SeenInstall, Retire as SeenRetire};
 ghost use Rattle.lama_model.specs.declared.answers.Refusal.{Refusal as SeenRefusal};
 ghost use Rattle.lama_model.specs.declared.answers.Refusal.TheVariants.{FullEdges, NoSnapshot};
 ghost use Rattle.lama_model.specs.declared.answers.Reply.TheVariants.{Accepted, Snapshot as SeenSnapshot, Refused as SeenRefused};
 ghost use Rattle.lama_snapshot.specs.Snap.{floor_of};
 ghost use Rattle.lama_book.specs.declared.fault.CallFault.TheVariants.{JournalFull, NoMemory};
-ghost use Rattle.lama_book.specs.Book.{newest_number, last_snap, snap_at, answers, next_change, IsRoomier, HasEntry, HasWrite, HasNext, HasCheckpoint, IsForgotten, IsNext};
+ghost use Rattle.lama_book.specs.Book.{newest_number, last_snap, snap_at, answers, next_change, IsRoomier, HasEntry, HasWrite, HasNext, HasCheckpoint, IsForgotten, IsOnto, IsNext};
 ghost use Rattle.lama_book.specs.Relation.{Opens, IsBookOf};
 
 use crate::{CallFault, Opening};
 use lama_base::limits::{MAX_EDGES, MAX_JOURNAL, MAX_KEPT, MAX_NUMBER, MAX_VERTICES};
 use lama_delta::Delta;
+use lama_merge::{Merged, rebase};
 use lama_model::{Call, Entry, Refusal, Reply, Rows, Write};
 use lama_pages::Steps;
 use lama_snapshot::Snapshot;
@@ -235,6 +236,40 @@ impl Book {
         Ok(Reply::Kept { oldest: k, newest })
     }
 
+    /// Puts the kept snapshots from the merged number on onto the merged base, where a snapshot of that number is kept and
+    /// its own base is older. No row of any snapshot changes, and one that is held elsewhere stays as it is. Costs what
+    /// the checkpoints above the merged number cost, and a pointer for each kept snapshot.
+    pub fn install<L: Ledger>(
+        &mut self,
+        caller: u16,
+        merged: &Arc<Merged, Global>,
+        pages: &mut Steps<L>,
+    ) -> Result<Reply, CallFault>
+        requires { self.old.oldest ≤ (arc_value merged.now).number → (arc_value merged.now).number ≤ newest_number self.old → (arc_value merged.now).rows ≡ (snap_at self.old (arc_value merged.now).number).rows }
+        ensures reply { IfOk result (λ r. (o : ModelOpening) → IsBookOf o self.old → r ≡ reply o self.old.journal (SeenInstall (arc_value merged.now).number)) }
+        ensures book { OnOk result ((o : ModelOpening) → IsBookOf o self.old → IsBookOf o self.new) }
+        ensures entry { OnOk result (self.new.journal ≡ self.old.journal ++ record { caller = caller; call = SeenInstall (arc_value merged.now).number } ∷ []) }
+        ensures spare { OnOk result (self.old.spare ≤ self.new.spare + 1) }
+        ensures fault { OnErr result (IsRoomier self.old self.new) }
+        ensures full { (result ≡ SeenErr JournalFull) ↔ (length self.old.journal ≡ 4194304) }
+    {
+        self.enter()?;
+        let onto: &Merged = merged;
+        let k = onto.number();
+        let entry = Entry {
+            caller,
+            call: Call::Install { k },
+        };
+        if let Some(refusal) = self.missing(k) {
+            return Ok(self.refuse(entry, refusal));
+        }
+        let Ok(()) = self.put_onto(merged, pages) else {
+            return Err(CallFault::NoMemory);
+        };
+        self.note(entry);
+        Ok(Reply::Snapshot { number: k })
+    }
+
     /// The entries of the calls so far, oldest first.
     pub fn journal(&self) -> &[Entry]
         ensures is { result.now ≡ self.now.journal }
@@ -374,6 +409,22 @@ impl Book {
             });
         }
         None
+    }
+
+    // Puts the kept snapshots onto the merged base.
+    fn put_onto<L: Ledger>(
+        &mut self,
+        merged: &Arc<Merged, Global>,
+        pages: &mut Steps<L>,
+    ) -> Result<(), AllocError>
+        requires low { self.old.oldest ≤ (arc_value merged.now).number }
+        requires high { (arc_value merged.now).number ≤ newest_number self.old }
+        requires rows { (arc_value merged.now).rows ≡ (snap_at self.old (arc_value merged.now).number).rows }
+        ensures onto { OnOk result (IsOnto self.old self.new (arc_value merged.now)) }
+        ensures err { OnErr result (self.new ≡ self.old) }
+    {
+        self.kept = rebase(self.alloc, &self.kept, merged, pages)?;
+        Ok(())
     }
 
     // Lets the snapshots before that of the number go.

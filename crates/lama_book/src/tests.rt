@@ -1,12 +1,19 @@
-ghost use Rattle.std.specs.Prelude.{◌≡◌, ◌<◌, ◌≤◌, [], ◌∷◌, drop};
+ghost use Rattle.std.specs.Prelude.{◌≡◌, ◌<◌, ◌≤◌, [], ◌∷◌, drop, IfOk, IfSome};
+ghost use Rattle.std.specs.Arc.{arc_value};
+ghost use Rattle.lama_model.specs.Opening.{empty_opening};
+ghost use Rattle.lama_model.specs.Journal.{standing};
+ghost use Rattle.lama_snapshot.specs.BaseRows.{Numbered};
+ghost use Rattle.lama_book.specs.Relation.{IsBookOf, IsMergedOf};
 
 use crate::{Book, CallFault, Looked, Opening};
 use lama_base::limits::MAX_JOURNAL;
+use lama_merge::Merged;
 use lama_model::{Call, Entry, PlainRows, Refusal, Reply, Rows, Write};
 use lama_pages::Steps;
 use lama_snapshot::Snapshot;
 use std::alloc::{AllocError, Global};
 use std::marker::Brand;
+use std::sync::Arc;
 use std::sync::ledger::{Blank, Ledger};
 use std::test::Fail;
 
@@ -453,6 +460,204 @@ fn each_snapshot_tells_the_graphs_from_its_floor_on(rt: HostRuntime) -> Result<(
             of_last.extend_from_slice(&[Some(&[]), Some(&[]), Some(&[0]), None])?;
             of_last.extend_from_slice(&[Some(&[]), Some(&[]), Some(&[0]), Some(&[0])])?;
             assert_eq!(rt; last, rows_of(alloc, &of_last)?);
+        }
+    }
+    Ok(())
+}
+
+// A book of no vertices that stands for its journal, before any call.
+fn opened_book<L: Ledger>(alloc: Global, pages: &mut Steps<L>) -> Result<Book, AllocError>
+    ensures { IfOk result (λ book. IsBookOf empty_opening book) }
+{
+    let rows = PlainRows::from_edges(alloc, 0, &[])?;
+    let book = Book::new(alloc, Opening::from_rows(alloc, 0, &rows, pages)?)?;
+    Ok(book)
+}
+
+// Whether the book takes the write, or a checkpoint where there is none.
+fn takes<L: Ledger>(book: &mut Book, next: Option<Write>, pages: &mut Steps<L>) -> bool
+    requires { IsBookOf empty_opening book.old }
+    ensures book { IsBookOf empty_opening book.new }
+    ensures merged { (m : Numbered) → IsMergedOf empty_opening (standing empty_opening book.old.journal) m → IsMergedOf empty_opening (standing empty_opening book.new.journal) m }
+{
+    match next {
+        Some(w) => book.write(0, w).is_ok(),
+        None => book.checkpoint(0, pages).is_ok(),
+    }
+}
+
+// Whether it takes all of them.
+fn takes_all<L: Ledger>(book: &mut Book, calls: &[Option<Write>], pages: &mut Steps<L>) -> bool
+    requires { IsBookOf empty_opening book.old }
+    ensures book { IsBookOf empty_opening book.new }
+    ensures merged { (m : Numbered) → IsMergedOf empty_opening (standing empty_opening book.old.journal) m → IsMergedOf empty_opening (standing empty_opening book.new.journal) m }
+{
+    for &next in calls {
+        if !takes(book, next, pages) {
+            return false;
+        }
+    }
+    true
+}
+
+// A base that is merged from the newest snapshot.
+fn newest_merged<L: Ledger>(
+    alloc: Global,
+    book: &mut Book,
+    pages: &mut Steps<L>,
+) -> Result<Option<Arc<Merged, Global>>, AllocError>
+    requires { IsBookOf empty_opening book.old }
+    ensures book { IsBookOf empty_opening book.new }
+    ensures old { (m : Numbered) → IsMergedOf empty_opening (standing empty_opening book.old.journal) m → IsMergedOf empty_opening (standing empty_opening book.new.journal) m }
+    ensures new { IfOk result (λ found. IfSome found (λ m. IsMergedOf empty_opening (standing empty_opening book.new.journal) (arc_value m))) }
+{
+    let Ok(newest) = book.look(0) else {
+        return Ok(None);
+    };
+    let merged = Merged::build(alloc, &newest, pages)?;
+    Ok(Some(Arc::new(alloc, merged)?))
+}
+
+// The reply to an install of it.
+fn install<L: Ledger>(
+    book: &mut Book,
+    merged: &Arc<Merged, Global>,
+    pages: &mut Steps<L>,
+) -> Option<Reply>
+    requires book { IsBookOf empty_opening book.old }
+    requires merged { IsMergedOf empty_opening (standing empty_opening book.old.journal) (arc_value merged.now) }
+    ensures book { IsBookOf empty_opening book.new }
+    ensures merged { (m : Numbered) → IsMergedOf empty_opening (standing empty_opening book.old.journal) m → IsMergedOf empty_opening (standing empty_opening book.new.journal) m }
+{
+    book.install(0, merged, pages).ok()
+}
+
+// What the tests look at: the rows of vertex 0 in the kept snapshots, and their floors.
+fn rows_and_floors(
+    alloc: Global,
+    book: &Book,
+) -> Result<(Vec<Vec<(u32, u64)>>, Vec<u32>), AllocError> {
+    let mut floors = Vec::new(alloc);
+    for snapshot in book.kept() {
+        floors.push(snapshot.floor())?;
+    }
+    Ok((first_rows(alloc, book)?, floors))
+}
+
+#[derive(Drop)]
+struct Installed {
+    before: Vec<Vec<(u32, u64)>>,
+    after: Vec<Vec<(u32, u64)>>,
+    floors: Vec<u32>,
+    reply: Option<Reply>,
+    floor: u32,
+}
+
+// A base is merged after the first calls and installed after the later ones.
+fn installed_late<L: Ledger>(
+    alloc: Global,
+    first: &[Option<Write>],
+    later: &[Option<Write>],
+    blank: Blank,
+) -> Result<Option<Installed>, AllocError>
+    requires name { blank.name ≡ L.name }
+    requires parts { blank.parts ≡ L.parts }
+    requires one { blank.parts ≡ 1 }
+{
+    let mut pages = Steps::<L>::open(blank);
+    let mut book = opened_book(alloc, &mut pages)?;
+    if !takes_all(&mut book, first, &mut pages) {
+        return Ok(None);
+    }
+    let Some(merged) = newest_merged(alloc, &mut book, &mut pages)? else {
+        return Ok(None);
+    };
+    if !takes_all(&mut book, later, &mut pages) {
+        return Ok(None);
+    }
+    let (before, _) = rows_and_floors(alloc, &book)?;
+    let reply = install(&mut book, &merged, &mut pages);
+    let (after, floors) = rows_and_floors(alloc, &book)?;
+    Ok(Some(Installed {
+        before,
+        after,
+        floors,
+        reply,
+        floor: book.floor(),
+    }))
+}
+
+// Edges that were deleted and weighed anew above the merged number stay so.
+#[test]
+fn an_install_changes_no_row(rt: HostRuntime) -> Result<(), Fail> {
+    let alloc = rt.alloc();
+    let first = [
+        Some(Write::Vertices(3)),
+        Some(Write::Add(0, 1, 1)),
+        Some(Write::Add(0, 2, 1)),
+        None,
+        Some(Write::Add(0, 0, 1)),
+        None,
+    ];
+    let later = [Some(Write::Remove(0, 1)), Some(Write::Weigh(0, 2, 9)), None];
+    match installed_late::<Brand>(alloc, &first, &later, Blank::new(1))? {
+        None => assert_eq!(rt; true, false),
+        Some(seen) => {
+            let rows = vec![in alloc;
+                Vec::new(alloc),
+                vec![in alloc; (2, 1), (1, 1)]?,
+                vec![in alloc; (0, 1), (2, 1), (1, 1)]?,
+                vec![in alloc; (0, 1), (2, 9)]?,
+            ]?;
+            assert_eq!(rt; seen.before, rows);
+            assert_eq!(rt; seen.after, rows);
+            assert_eq!(rt; seen.reply, Some(Reply::Snapshot { number: 2 }));
+            assert_eq!(rt; seen.floors, vec![in alloc; 0, 0, 2, 2]?);
+            assert_eq!(rt; seen.floor, 2);
+        }
+    }
+    Ok(())
+}
+
+// Bases are merged from snapshots 2 and 3, and the older one is installed last.
+fn older_last<L: Ledger>(
+    alloc: Global,
+    blank: Blank,
+) -> Result<Option<(Option<Reply>, Option<Reply>, Vec<u32>, u32)>, AllocError>
+    requires name { blank.name ≡ L.name }
+    requires parts { blank.parts ≡ L.parts }
+    requires one { blank.parts ≡ 1 }
+{
+    let mut pages = Steps::<L>::open(blank);
+    let mut book = opened_book(alloc, &mut pages)?;
+    if !takes_all(&mut book, &[None, None], &mut pages) {
+        return Ok(None);
+    }
+    let Some(second) = newest_merged(alloc, &mut book, &mut pages)? else {
+        return Ok(None);
+    };
+    if !takes_all(&mut book, &[None], &mut pages) {
+        return Ok(None);
+    }
+    let Some(third) = newest_merged(alloc, &mut book, &mut pages)? else {
+        return Ok(None);
+    };
+    let one = install(&mut book, &third, &mut pages);
+    let two = install(&mut book, &second, &mut pages);
+    let (_, floors) = rows_and_floors(alloc, &book)?;
+    Ok(Some((one, two, floors, book.floor())))
+}
+
+#[test]
+fn an_older_base_leaves_newer_floors(rt: HostRuntime) -> Result<(), Fail> {
+    let alloc = rt.alloc();
+    match older_last::<Brand>(alloc, Blank::new(1))? {
+        None => assert_eq!(rt; true, false),
+        Some((one, two, floors, floor)) => {
+            assert_eq!(rt; one, Some(Reply::Snapshot { number: 3 }));
+            assert_eq!(rt; two, Some(Reply::Snapshot { number: 2 }));
+            assert_eq!(rt; floors, vec![in alloc; 0, 0, 2, 3]?);
+            assert_eq!(rt; floor, 3);
         }
     }
     Ok(())

@@ -1,4 +1,4 @@
-use Rattle.std.proofs.Common.{[], ◌<◌, ◌≤◌, arith}
+use Rattle.std.proofs.Common.{[], ◌<◌, arith}
 use Rattle.std.proofs.lemmas.List.Elements.{All-nil}
 use Rattle.lama_base.specs.declared.Edge.{Edge}
 use Rattle.lama_model.proofs.Counting.{edges-counted}
