@@ -5,9 +5,10 @@ ghost use Rattle.std.specs.List.{range_with_len};
 ghost use Rattle.lama_model.specs.Row.{graph_of_rows};
 ghost use Rattle.lama_model.specs.Labels.{labels};
 
-use crate::lowering::{edges_in_pieces, lower, total};
+use crate::lowering::{lower, total};
 use lama_base::Gate;
 use lama_model::Rows;
+use lama_work::edges_in_pieces;
 use std::alloc::{AllocError, Global};
 use std::thread::Threads;
 

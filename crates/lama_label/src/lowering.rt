@@ -11,7 +11,6 @@ ghost use Rattle.lama_label.specs.Lowering.{second, take_all, take_own, offered,
 ghost use Rattle.lama_label.specs.Lowering as seen;
 
 use lama_base::Gate;
-use lama_model::{Rows, edges_between};
 use lama_work::map_pieces;
 use std::alloc::{AllocError, Global};
 use std::thread::Threads;
@@ -124,34 +123,6 @@ fn take_copies(labels: &mut [u32], copies: &[Vec<u32>])
     for copy in copies {
         take_copy(labels, copy);
     }
-}
-
-// All edges, a list for each piece of the vertices that they leave.
-pub(crate) fn edges_in_pieces<T: Threads + Sync, R: Rows + Sync, G: Gate + Sync>(
-    rt: &T,
-    alloc: Global,
-    rows: &R,
-    workers: u32,
-    gate: &G,
-) -> Result<Vec<Vec<(u32, u32)>>, AllocError>
-where
-    R::At: Send,
-    requires some { 1 ≤ workers }
-    requires few { workers ≤ 16 }
-    ensures pieces { IfOk result (λ v. length v.items ≡ workers) }
-    ensures edges { IfOk result (λ v. flat_map (λ piece. piece.items) v.items ≡ edges_from (R.rows rows.now) (range_with_len 0 (length (R.rows rows.now)))) }
-{
-    map_pieces(
-        rt,
-        alloc,
-        rows.count(),
-        workers,
-        gate,
-        &|_: u32, start: u32, end: u32| -> Result<Vec<(u32, u32)>, AllocError>
-            requires { (start ≤ end) × (end ≤ length (R.rows rows.now)) }
-            ensures { IfOk result (λ v. v.items ≡ edges_from (R.rows rows.entry.now) (take (end - start) (drop start (range_with_len 0 (length (R.rows rows.entry.now)))))) }
-        { edges_between(alloc, rows, start, end) },
-    )
 }
 
 // The labels after each of these lists of edges, each as a copy.

@@ -8,7 +8,7 @@ use Rattle.lama_model.specs.Script.{End}
 use Rattle.lama_model.specs.Script.End.{Whole, BadAt, TooMany}
 use Rattle.lama_model.specs.declared.calls.Write.TheVariants.{Vertices}
 use Rattle.lama_model.specs.declared.commands.Command.{Command}
-use Rattle.lama_model.specs.declared.commands.Command.TheVariants.{Write as Writes, Checkpoint as Checkpoints, Retire as Retires}
+use Rattle.lama_model.specs.declared.commands.Command.TheVariants.{Write as Writes, Checkpoint as Checkpoints, Merge as Merges, Retire as Retires}
 use Rattle.lama_model.specs.declared.answers.Reply.{Reply}
 use Rattle.lama_model.specs.declared.answers.Reply.TheVariants.{Count, Snapshot, Kept, Refused}
 use Rattle.lama_model.specs.declared.answers.Refusal.{Refusal}
@@ -28,6 +28,7 @@ unfoldable pub reply_line : Command → Reply → List ℕ
 reply_line command (Refused r) = refusal_line r
 reply_line (Writes (Vertices n)) (Count count) = codes "vertices " ++ decimal count ++ codes "\n"
 reply_line Checkpoints (Snapshot number) = codes "snapshot " ++ decimal number ++ codes "\n"
+reply_line Merges (Snapshot number) = codes "merged " ++ decimal number ++ codes "\n"
 reply_line (Retires k) (Kept oldest newest) = codes "kept " ++ decimal oldest ++ codes " " ++ decimal newest ++ codes "\n"
 reply_line command reply = []
 

@@ -4,7 +4,7 @@ use Rattle.std.specs.List.{slice_split, list_all}
 use Rattle.std.specs.Option.{option_map, option_and_then}
 use Rattle.lama_model.specs.declared.calls.Write.TheVariants.{Vertices, Add, Remove, Weigh}
 use Rattle.lama_model.specs.declared.commands.Command.{Command}
-use Rattle.lama_model.specs.declared.commands.Command.TheVariants.{Write as Writes, Checkpoint as Checkpoints, Retire as Retires, Read as Reads}
+use Rattle.lama_model.specs.declared.commands.Command.TheVariants.{Write as Writes, Checkpoint as Checkpoints, Merge as Merges, Retire as Retires, Read as Reads}
 use Rattle.lama_model.specs.declared.commands.Read.{Read}
 use Rattle.lama_model.specs.declared.commands.Read.TheVariants.{Row, Edges, Degrees, Bfs, Labels, Rank, AsOf}
 
@@ -92,6 +92,10 @@ weigh_command (u ∷ v ∷ w ∷ more ∷ args) = None
 abbrev pub checkpoint_command : List (List ℕ) → Option Command
 checkpoint_command [] = Some Checkpoints
 checkpoint_command (more ∷ args) = None
+
+abbrev pub merge_command : List (List ℕ) → Option Command
+merge_command [] = Some Merges
+merge_command (more ∷ args) = None
 
 abbrev pub retire_command : List (List ℕ) → Option Command
 retire_command [] = None
@@ -181,8 +185,9 @@ command_of word args =
     else (if bytes_eq word (codes "del") then del_command args
     else (if bytes_eq word (codes "weigh") then weigh_command args
     else (if bytes_eq word (codes "checkpoint") then checkpoint_command args
+    else (if bytes_eq word (codes "merge") then merge_command args
     else (if bytes_eq word (codes "retire") then retire_command args
-    else reading_of (behind_at word) word args)))))
+    else reading_of (behind_at word) word args))))))
 
 -- what a line says
 pub data Meaning : Type 0 where

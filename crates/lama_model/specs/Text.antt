@@ -3,7 +3,7 @@ use Rattle.std.specs.Prelude.{ℕ, nat_lt, ◌||◌, if◌then◌else◌, List, 
 use Rattle.lama_model.specs.Graph.{Graph}
 use Rattle.lama_model.specs.Row.{row, rows_of}
 use Rattle.lama_model.specs.Opening.{Opening}
-use Rattle.lama_model.specs.Journal.{reply, graph, floor_at}
+use Rattle.lama_model.specs.Journal.{reply, newest, graph, floor_at}
 use Rattle.lama_model.specs.Script.{Item, Script, script}
 use Rattle.lama_model.specs.Script.Item.{One}
 use Rattle.lama_model.specs.Lines.{reply_line, refusal_line, row_line, as_of_line, edges_lines, greatest, degrees_line, levels_text, labels_text, ranks_text, last_line}
@@ -12,10 +12,10 @@ use Rattle.lama_model.specs.Labels.{labels}
 use Rattle.lama_model.specs.Degrees.{out_degrees, count_sinks}
 use Rattle.lama_model.specs.Ranks.{ranks}
 use Rattle.lama_model.specs.declared.calls.Call.{Call}
-use Rattle.lama_model.specs.declared.calls.Call.TheVariants.{Write as WriteCall, Checkpoint, Look, LookAt, Retire}
+use Rattle.lama_model.specs.declared.calls.Call.TheVariants.{Write as WriteCall, Checkpoint, Look, LookAt, Install, Retire}
 use Rattle.lama_model.specs.declared.calls.Entry.{Entry}
 use Rattle.lama_model.specs.declared.commands.Command.{Command}
-use Rattle.lama_model.specs.declared.commands.Command.TheVariants.{Write as Writes, Checkpoint as Checkpoints, Retire as Retires, Read as Reads}
+use Rattle.lama_model.specs.declared.commands.Command.TheVariants.{Write as Writes, Checkpoint as Checkpoints, Merge as Merges, Retire as Retires, Read as Reads}
 use Rattle.lama_model.specs.declared.commands.Read.{Read}
 use Rattle.lama_model.specs.declared.commands.Read.TheVariants.{Row, Edges, Degrees, Bfs, Labels, Rank, AsOf}
 use Rattle.lama_model.specs.declared.answers.Reply.{Reply}
@@ -27,10 +27,11 @@ abbrev pub look_of : Option ℕ → Call
 look_of None = Look
 look_of (Some k) = LookAt k
 
--- the calls of a command, made after the journal
+-- the calls of a command, made after the journal. A merge looks for the newest number and installs that
 abbrev pub calls_of : Opening → List Entry → Command → List Call
 calls_of o journal (Writes w) = WriteCall w ∷ []
 calls_of o journal Checkpoints = Checkpoint ∷ []
+calls_of o journal Merges = Look ∷ Install (newest o journal) ∷ []
 calls_of o journal (Retires k) = Retire k ∷ []
 calls_of o journal (Reads at what) = look_of at ∷ []
 
@@ -66,6 +67,7 @@ reading_lines o journal command what (Kept a b) = []
 abbrev pub lines_of : Opening → List Entry → ℕ → Command → List ℕ
 lines_of o journal caller (Writes w) = reply_line (Writes w) (reply o journal (WriteCall w))
 lines_of o journal caller Checkpoints = reply_line Checkpoints (reply o journal Checkpoint)
+lines_of o journal caller Merges = reply_line Merges (reply o (journal ++ entry caller Look ∷ []) (Install (newest o journal)))
 lines_of o journal caller (Retires k) = reply_line (Retires k) (reply o journal (Retire k))
 lines_of o journal caller (Reads at what) =
     reading_lines o (journal_after o journal caller (Reads at what)) (Reads at what) what (reply o journal (look_of at))

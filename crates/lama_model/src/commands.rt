@@ -26,6 +26,8 @@ pub enum Read {
 pub enum Command {
     Write(Write),
     Checkpoint,
+    /// Gathers the levels of the newest snapshot into a base of its own.
+    Merge,
     /// Lets the snapshots before that of the number `k` go.
     Retire { k: u32 },
     /// Reads the newest snapshot, or the one of the number `at`.

@@ -61,6 +61,9 @@ pub fn earlier_graphs()
         ≡ codes "vertices 3\nsnapshot 1\nsnapshot 2\nsnapshot 3\nasof 3 2 0 : 2 1\nasof 3 3 0 : 2\nasof 3 1 0 : 1\nasof 3 0 0 :\nno snapshot 4 of 0 3\nunknown vertex 3 of 3\nno snapshot 2 of 0 1\nasof 2 1 0 : 1\nend 15\n" }
     ensures retired { text empty_opening (codes "checkpoint\ncheckpoint\ncheckpoint\ncheckpoint\nretire 3\n@2 row 0\nretire 9\n")
         ≡ codes "snapshot 1\nsnapshot 2\nsnapshot 3\nsnapshot 4\nkept 3 4\nno snapshot 2 of 3 4\nno snapshot 9 of 3 4\nend 7\n" }
+    // A merge raises the floor, and changes no snapshot.
+    ensures merged { text empty_opening (codes "vertices 3\nadd 0 1\ncheckpoint\nadd 0 2\ncheckpoint\nmerge\ndel 0 1\ncheckpoint\nasof 2 0\nasof 1 0\nasof 3 0\n")
+        ≡ codes "vertices 3\nsnapshot 1\nsnapshot 2\nmerged 2\nsnapshot 3\nasof 3 2 0 : 2 1\nno snapshot 1 of 2 3\nasof 3 3 0 : 2\nend 12\n" }
     // A vertex that came later has no edges then. A retirement leaves the floor, so older graphs are still told.
     ensures still_told { text empty_opening (codes "vertices 1\nadd 0 0 4\ncheckpoint\nvertices 1\nadd 0 1\nadd 1 0\ncheckpoint\nretire 2\nasof 1 1\nasof 1 0\nasof 1\n")
         ≡ codes "vertices 1\nsnapshot 1\nvertices 2\nsnapshot 2\nkept 2 2\nasof 2 1 1 :\nasof 2 1 0 : 0\nbad line 11\n" }

@@ -1,7 +1,7 @@
 -- The lists of edges, one for each piece of the vertices that they lead to, and what a round leaves of all pieces.
 use Rattle.std.proofs.Common.{◌≡◌, ◌∙◌, ℕ, zero, suc, ◌+◌, ◌-◌, ◌<◌, ◌≤◌, List, [], ◌∷◌, length, get_or, map, Bool, refl, sym, ap, subst, arith}
 use Rattle.std.specs.List.{flat_map, range_with_len}
-use Rattle.std.proofs.lemmas.List.{length-map, get_or-map, map-append, ext_get_or}
+use Rattle.std.proofs.lemmas.List.{append-nil, length-map, get_or-map, map-append, ext_get_or}
 use Rattle.std.proofs.lemmas.List.FromFn.{length-range_with_len, length-map-range_with_len, get_or-map-range_with_len}
 use Rattle.lama_model.specs.Row.{AreTargetsBelow}
 use Rattle.lama_model.specs.Ranks.{rank_of_sum}
@@ -17,6 +17,14 @@ one-by-target rows below zero d lt =
     sym (to-all (length rows) (all_edges rows) (all-ends rows below))
     ∙ (λ j. edges_to (sym (first-start (length rows) 1 (omega arith)) j) (sym (last-end (length rows) 1 (omega arith)) j) (all_edges rows))
 one-by-target rows below (suc i) d lt = absurd (omega (arith, lt))
+
+-- the same, where it is the only one
+pub whole-by-target : {T : Type 0} (rows : List (List (ℕ × ℕ))) (items : T → List (ℕ × ℕ)) → AreTargetsBelow (length rows) rows → (vs : List T) → length vs ≡ 1
+    → flat_map items vs ≡ all_edges rows → AreByTarget rows (map items vs)
+whole-by-target rows items below [] size all = absurd (omega (arith, size))
+whole-by-target rows items below (v ∷ []) size all =
+    subst (AreByTarget rows) (ap (λ l. l ∷ []) (sym all ∙ append-nil (items v))) (one-by-target rows below)
+whole-by-target rows items below (v ∷ w ∷ vs) size all = absurd (omega (arith, size))
 
 pub pieces-by-target : {T : Type 0} (rows : List (List (ℕ × ℕ))) (items : T → List (ℕ × ℕ)) (n workers : ℕ) → n ≡ length rows → (vs : List T) → length vs ≡ workers
     → ((i : ℕ) (d : T) → i < workers → items (get_or vs i d) ≡ edges_to (piece_start n workers i) (piece_start n workers (i + 1)) (all_edges rows))

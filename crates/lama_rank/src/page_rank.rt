@@ -1,14 +1,15 @@
 //! Ranks, found round by round.
 
 ghost use Rattle.std.specs.Prelude.{◌≡◌, ◌+◌, ◌<◌, ◌≤◌, ◌++◌, [], ◌∷◌, IfOk, OnOk, length, map};
-ghost use Rattle.lama_model.specs.Row.{row_at, graph_of_rows};
+ghost use Rattle.std.specs.List.{flat_map};
+ghost use Rattle.lama_model.specs.Row.{graph_of_rows};
 ghost use Rattle.lama_model.specs.Ranks.{ranks};
 ghost use Rattle.lama_rank.specs.Rounds.{share, edges_to, all_edges, AreByTarget};
 
 use crate::round::{round, share};
 use lama_base::Gate;
-use lama_model::{Rows, edges_between};
-use lama_work::map_pieces;
+use lama_model::Rows;
+use lama_work::{edges_in_pieces, map_pieces};
 use std::alloc::{AllocError, Global};
 use std::thread::Threads;
 
@@ -21,7 +22,8 @@ const FEW: u32 = 400;
 /// has 150,000 and 85 hundredths, rounded down, of what was handed to it. One without out-edges hands on nothing.
 ///
 /// The edges are put into lists first, of eight bytes for each, by the piece of the vertices that they lead to, so a round
-/// costs the vertices and the edges and takes no memory that grows with the rounds. There is a piece for each worker, and
+/// costs the vertices and the edges and takes no memory that grows with the rounds. While several lists are made, the edges
+/// stand in lists by source too. There is a piece for each worker, and
 /// one where there are few vertices; each reaches the gate before its work. The only error is want of memory.
 pub fn rank<T: Threads + Sync, R: Rows + Sync, G: Gate + Sync>(
     rt: &T,
@@ -77,7 +79,8 @@ fn first_shares(alloc: Global, degrees: &[u32]) -> Result<Vec<u64>, AllocError>
     Ok(shares)
 }
 
-// All edges, a list for each piece of the vertices that they lead to.
+// All edges, a list for each piece of the vertices that they lead to. Where there are several pieces, the rows are walked in
+// pieces first, into lists by source, and each piece then takes its own edges from these.
 fn edges_by_target<T: Threads + Sync, R: Rows + Sync, G: Gate + Sync>(
     rt: &T,
     alloc: Global,
@@ -93,10 +96,9 @@ where
     ensures edges { IfOk result (λ v. AreByTarget (R.rows rows.now) (map (λ list. list.items) v.items)) }
 {
     let count = rows.count();
+    let by_source = edges_in_pieces(rt, alloc, rows, pieces, gate)?;
     if pieces == 1 {
-        let mut lists = Vec::with_capacity(alloc, 1)?;
-        lists.push(edges_between(alloc, rows, 0, count)?)?;
-        return Ok(lists);
+        return Ok(by_source);
     }
     map_pieces(
         rt,
@@ -105,42 +107,38 @@ where
         pieces,
         gate,
         &|_: u32, start: u32, end: u32| -> Result<Vec<(u32, u32)>, AllocError>
-            ensures { IfOk result (λ v. v.items ≡ edges_to start end (all_edges (R.rows rows.entry.now))) }
-        { edges_into(alloc, rows, start, end) },
+            ensures { IfOk result (λ v. v.items ≡ edges_to start end (flat_map (λ list. list.items) by_source.items)) }
+        { edges_into(alloc, &by_source, start, end) },
     )
 }
 
-// The edges that lead to the vertices from `start` to before `end`. Each piece walks all rows for them.
-fn edges_into<R: Rows>(
+// The edges that lead to the vertices from `start` to before `end`.
+fn edges_into(
     alloc: Global,
-    rows: &R,
+    lists: &[Vec<(u32, u32)>],
     start: u32,
     end: u32,
 ) -> Result<Vec<(u32, u32)>, AllocError>
-    ensures { IfOk result (λ v. v.items ≡ edges_to start end (all_edges (R.rows rows.now))) }
+    ensures { IfOk result (λ v. v.items ≡ edges_to start end (flat_map (λ list. list.items) lists.now)) }
 {
     let mut found = Vec::new(alloc);
-    for u in 0..rows.count() {
-        push_row(rows, u, start, end, &mut found)?;
+    for list in lists {
+        push_list(list, start, end, &mut found)?;
     }
     Ok(found)
 }
 
-// Puts those of one vertex at the end.
-fn push_row<R: Rows>(
-    rows: &R,
-    u: u32,
+// Puts those of one list at the end.
+fn push_list(
+    list: &[(u32, u32)],
     start: u32,
     end: u32,
     found: &mut Vec<(u32, u32)>,
 ) -> Result<(), AllocError>
-    requires { u < length (R.rows rows.now) }
-    ensures { OnOk result (found.new.items ≡ found.old.items ++ edges_to start end (map (λ p. (u, p.0)) (row_at (R.rows rows.now) u))) }
+    ensures { OnOk result (found.new.items ≡ found.old.items ++ edges_to start end list.now) }
 {
-    let mut at = rows.start(u);
-    while let Some((target, _, rest)) = rows.next(at) {
-        push_within(u, target, start, end, found)?;
-        at = rest;
+    for &(u, v) in list {
+        push_within(u, v, start, end, found)?;
     }
     Ok(())
 }

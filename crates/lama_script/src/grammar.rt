@@ -2,7 +2,7 @@
 
 ghost use Rattle.std.specs.Prelude.{◌≡◌, ◌<◌, ◌^◌, [], ◌∷◌, ⊤, not, true, MatchOption, None, Some, IsTrue, ◌↔◌};
 ghost use Rattle.std.specs.List.{position};
-ghost use Rattle.lama_model.specs.Script.{words, number, vertices_command, add_command, del_command, weigh_command, checkpoint_command, retire_command, row_read, edges_read, degrees_read, sum_of, bfs_read, labels_read, rank_read, as_of_read, read_of, behind_at, reading_of, command_of, meaning, without_return};
+ghost use Rattle.lama_model.specs.Script.{words, number, vertices_command, add_command, del_command, weigh_command, checkpoint_command, merge_command, retire_command, row_read, edges_read, degrees_read, sum_of, bfs_read, labels_read, rank_read, as_of_read, read_of, behind_at, reading_of, command_of, meaning, without_return};
 ghost use Rattle.lama_model.specs.Script as grammar;
 ghost use Rattle.lama_script.specs.Numbers.{IsFirstNumber, IsLeading};
 ghost use Rattle.lama_script.specs.Parsing.{answer_to};
@@ -171,6 +171,8 @@ fn command(word: &[u8], args: &[u8]) -> Option<Command>
         weigh(args)
     } else if word == b"checkpoint".as_slice() {
         checkpoint(args)
+    } else if word == b"merge".as_slice() {
+        merge(args)
     } else if word == b"retire".as_slice() {
         retire(args)
     } else {
@@ -283,6 +285,12 @@ fn checkpoint(args: &[u8]) -> Option<Command>
     ensures { result ≡ checkpoint_command (words args.now) }
 {
     is_end(args).then_some(Command::Checkpoint)
+}
+
+fn merge(args: &[u8]) -> Option<Command>
+    ensures { result ≡ merge_command (words args.now) }
+{
+    is_end(args).then_some(Command::Merge)
 }
 
 fn retire(args: &[u8]) -> Option<Command>

@@ -105,6 +105,11 @@ fn append_reply(out: &mut Vec<u8>, command: &Command, reply: &Reply) -> Result<(
             b"snapshot ",
             u64::from(*number),
         ),
+        (Command::Merge, Reply::Snapshot { number }) => append_named(
+            out,
+            b"merged ",
+            u64::from(*number),
+        ),
         (Command::Retire { .. }, Reply::Kept { oldest, newest }) => append_kept(
             out, *oldest, *newest,
         ),

@@ -156,6 +156,15 @@ fn retirements_name_a_snapshot(rt: HostRuntime) {
 }
 
 #[test]
+fn merges_have_no_words(rt: HostRuntime) {
+    assert_eq!(rt; answer(b"merge"), says(Command::Merge));
+    assert_eq!(rt; answer(b" merge\t\r"), says(Command::Merge));
+    assert_eq!(rt; answer(b"merge 3"), BAD);
+    assert_eq!(rt; answer(b"@3 merge"), BAD);
+    assert_eq!(rt; answer(b"merged"), BAD);
+}
+
+#[test]
 fn earlier_rows_name_a_number_and_a_vertex(rt: HostRuntime) {
     assert_eq!(rt; answer(b"asof 3 5"), as_of(None, 3, 5));
     assert_eq!(rt; answer(b" asof\t03  05 "), as_of(None, 3, 5));
@@ -373,7 +382,7 @@ fn earlier_targets_print_newest_first(rt: HostRuntime) -> Result<(), AllocError>
 }
 
 #[test]
-fn a_retirement_prints_what_is_kept(rt: HostRuntime) -> Result<(), AllocError> {
+fn retirements_and_merges_print_their_numbers(rt: HostRuntime) -> Result<(), AllocError> {
     let mut out = Vec::new(rt.alloc());
     let kept = Reply::Kept {
         oldest: 3,
@@ -391,9 +400,10 @@ fn a_retirement_prints_what_is_kept(rt: HostRuntime) -> Result<(), AllocError> {
         &Reply::Refused(missing),
     )?;
     print_reply(&mut out, &Command::Checkpoint, &kept)?;
+    print_reply(&mut out, &Command::Merge, &Reply::Snapshot { number: 12 })?;
     assert_eq!(rt;
         out.as_slice(),
-        b"kept 3 12\nno snapshot 9 of 3 4\n".as_slice()
+        b"kept 3 12\nno snapshot 9 of 3 4\nmerged 12\n".as_slice()
     );
     Ok(())
 }

@@ -1,22 +1,23 @@
 -- What is expected at the start is the outcome, and how it goes on line by line.
-use Rattle.std.proofs.Common.{◌≡◌, ℕ, ◌+◌, ◌<◌, ◌≤◌, Bool, true, false, cond, List, [], ◌∷◌, ◌++◌, length, refl, ap, ◌∙◌, arith}
+use Rattle.std.proofs.Common.{◌≡◌, ℕ, ◌+◌, ◌<◌, ◌≤◌, Bool, true, false, cond, List, [], ◌∷◌, ◌++◌, length, refl, sym, ap, ◌∙◌, arith}
 use Rattle.std.specs.Prelude.{nat_lt}
 use Rattle.std.proofs.lemmas.List.{append_assoc}
 use Rattle.std.proofs.lemmas.Bool.Decides.{nat_tests}
 use Rattle.lama_model.specs.Opening.{empty_opening}
-use Rattle.lama_model.specs.Journal.{standing, reply}
+use Rattle.lama_model.specs.Journal.{standing, newest, reply, reply_at}
 use Rattle.lama_model.specs.Script.{Meaning, Script, meaning, meaning_of_words, words, without_return, script_from, lines, with_line}
 use Rattle.lama_model.specs.Script.Meaning.{Skipped, Says, Bad}
 use Rattle.lama_model.specs.Script.End.{Whole, TooMany}
-use Rattle.lama_model.specs.Lines.{last_line}
-use Rattle.lama_model.specs.Text.{transcript_from, text, text_of, journal_after, lines_of, reading_lines, look_of}
+use Rattle.lama_model.specs.Lines.{reply_line, last_line}
+use Rattle.lama_model.specs.Text.{entry, transcript_from, text, text_of, journal_after, lines_of, reading_lines, look_of}
+use Rattle.lama_model.specs.declared.calls.Call.TheVariants.{Look, Install}
 use Rattle.lama_model.specs.declared.calls.Entry.{Entry}
 use Rattle.lama_model.specs.declared.commands.Command.{Command}
-use Rattle.lama_model.specs.declared.commands.Command.TheVariants.{Write as Writes, Checkpoint as Checkpoints, Retire as Retires, Read as Reads}
+use Rattle.lama_model.specs.declared.commands.Command.TheVariants.{Write as Writes, Checkpoint as Checkpoints, Merge as Merges, Retire as Retires, Read as Reads}
 use Rattle.lama_model.specs.declared.commands.Read.{Read}
 use Rattle.lama_model.specs.declared.answers.Reply.{Reply}
 use Rattle.lama_model.specs.declared.answers.Reply.TheVariants.{Accepted, Count, Snapshot, Kept, Refused}
-use Rattle.llama_main.specs.Store.{Held, held_by}
+use Rattle.llama_main.specs.Store.{Held, held_by, called}
 use Rattle.llama_main.proofs.Holding.{held_by-push}
 use Rattle.llama_main.specs.Outcome.{Outcome, outcome}
 use Rattle.llama_main.specs.Expected.{behind, ended, held_after, printed, printed_reading, following, expected_from}
@@ -25,6 +26,7 @@ use Rattle.llama_main.specs.Expected.{behind, ended, held_after, printed, printe
 journal_after-held : (journal : List Entry) (c : Command) → held_by (journal_after empty_opening journal 0 c) ≡ held_after (held_by journal) c
 journal_after-held journal (Writes w) = held_by-push journal _
 journal_after-held journal Checkpoints = held_by-push journal _
+journal_after-held journal Merges = ap held_by (sym (append_assoc journal (entry 0 Look ∷ []) (entry 0 (Install (newest empty_opening journal)) ∷ []))) ∙ (held_by-push (journal ++ entry 0 Look ∷ []) (Install (newest empty_opening journal)) ∙ ap (λ h. called h (Install (newest empty_opening journal))) (held_by-push journal Look))
 journal_after-held journal (Retires k) = held_by-push journal _
 journal_after-held journal (Reads at what) = held_by-push journal _
 
@@ -39,6 +41,7 @@ reading-printed journal h c what (Refused r) is = refl
 lines_of-printed : (journal : List Entry) (c : Command) → lines_of empty_opening journal 0 c ≡ printed (held_by journal) c
 lines_of-printed journal (Writes w) = refl
 lines_of-printed journal Checkpoints = refl
+lines_of-printed journal Merges = ap (λ h. reply_line Merges (reply_at empty_opening h.standing (Install (newest empty_opening journal)))) (held_by-push journal Look)
 lines_of-printed journal (Retires k) = refl
 lines_of-printed journal (Reads at what) =
     reading-printed (journal_after empty_opening journal 0 (Reads at what)) (held_after (held_by journal) (Reads at what)) (Reads at what) what (reply empty_opening journal (look_of at)) (journal_after-held journal (Reads at what))

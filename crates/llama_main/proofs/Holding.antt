@@ -42,7 +42,7 @@ found journal t k r x same is within opening of = record {
 }
 
 -- the newest snapshot is that of the newest number
-newest-of : (b : Book) → IsBookOf empty_opening b → IsSnapshotOf empty_opening (standing empty_opening b.journal) (newest_of empty_opening (standing empty_opening b.journal)) (last_snap b)
+pub newest-of : (b : Book) → IsBookOf empty_opening b → IsSnapshotOf empty_opening (standing empty_opening b.journal) (newest_of empty_opening (standing empty_opening b.journal)) (last_snap b)
 newest-of b of =
     let s = standing empty_opening b.journal in
     let from = (is_standing empty_opening of.is b.journal).oldest in

@@ -14,7 +14,7 @@ use Rattle.lama_model.specs.Lines.{reply_line, refusal_line, row_line, as_of_lin
 use Rattle.lama_model.specs.Text.{read_lines, look_of}
 use Rattle.lama_model.specs.declared.calls.Write.TheVariants.{Vertices, Add, Remove, Weigh}
 use Rattle.lama_model.specs.declared.commands.Command.{Command}
-use Rattle.lama_model.specs.declared.commands.Command.TheVariants.{Write as Writes, Checkpoint as Checkpoints, Retire as Retires, Read as Reads}
+use Rattle.lama_model.specs.declared.commands.Command.TheVariants.{Write as Writes, Checkpoint as Checkpoints, Merge as Merges, Retire as Retires, Read as Reads}
 use Rattle.lama_model.specs.declared.commands.Read.{Read}
 use Rattle.lama_model.specs.declared.commands.Read.TheVariants.{Row, Edges, Bfs, Labels, AsOf}
 use Rattle.lama_model.specs.declared.answers.Reply.{Reply}
@@ -39,6 +39,7 @@ reply_line-refused (Writes (Add u v w)) r = refl
 reply_line-refused (Writes (Remove u v)) r = refl
 reply_line-refused (Writes (Weigh u v w)) r = refl
 reply_line-refused Checkpoints r = refl
+reply_line-refused Merges r = refl
 reply_line-refused (Retires k) r = refl
 reply_line-refused (Reads at what) r = refl
 

@@ -1,16 +1,15 @@
 -- What a run is expected to write, seen from a moment of it. The calls so far are known by what they leave.
 use Rattle.std.specs.Prelude.{ℕ, ◌+◌, nat_lt, if◌then◌else◌, List, [], ◌∷◌, ◌++◌, length}
 use Rattle.lama_model.specs.Opening.{empty_opening}
-use Rattle.lama_model.specs.Journal.{reply_at, graph_of, floor_of}
+use Rattle.lama_model.specs.Journal.{reply_at, newest_of, graph_of, floor_of}
 use Rattle.lama_model.specs.Script.{End, Meaning, meaning}
 use Rattle.lama_model.specs.Script.End.{Whole, BadAt, TooMany}
 use Rattle.lama_model.specs.Script.Meaning.{Skipped, Says, Bad}
 use Rattle.lama_model.specs.Lines.{reply_line, last_line}
 use Rattle.lama_model.specs.Text.{look_of, read_lines}
-use Rattle.lama_model.specs.declared.calls.Call.{Call}
-use Rattle.lama_model.specs.declared.calls.Call.TheVariants.{Write as WriteCall, Checkpoint, Retire}
+use Rattle.lama_model.specs.declared.calls.Call.TheVariants.{Write as WriteCall, Checkpoint, Look, Install, Retire}
 use Rattle.lama_model.specs.declared.commands.Command.{Command}
-use Rattle.lama_model.specs.declared.commands.Command.TheVariants.{Write as Writes, Checkpoint as Checkpoints, Retire as Retires, Read as Reads}
+use Rattle.lama_model.specs.declared.commands.Command.TheVariants.{Write as Writes, Checkpoint as Checkpoints, Merge as Merges, Retire as Retires, Read as Reads}
 use Rattle.lama_model.specs.declared.commands.Read.{Read}
 use Rattle.lama_model.specs.declared.answers.Reply.{Reply}
 use Rattle.lama_model.specs.declared.answers.Reply.TheVariants.{Accepted, Count, Snapshot, Kept, Refused}
@@ -25,16 +24,17 @@ behind said rest = record { text = said ++ rest.text; end = rest.end; journal = 
 abbrev pub ended : Held → End → Outcome
 ended h end = record { text = last_line (length h.journal) end; end = end; journal = h.journal }
 
--- the call of a command
-abbrev pub call_of : Command → Call
-call_of (Writes w) = WriteCall w
-call_of Checkpoints = Checkpoint
-call_of (Retires k) = Retire k
-call_of (Reads at what) = look_of at
+-- what a merge installs is the newest number
+abbrev pub newest_held : Held → ℕ
+newest_held h = newest_of empty_opening h.standing
 
 -- what is held after a command
 abbrev pub held_after : Held → Command → Held
-held_after h command = called h (call_of command)
+held_after h (Writes w) = called h (WriteCall w)
+held_after h Checkpoints = called h Checkpoint
+held_after h Merges = called (called h Look) (Install (newest_held h))
+held_after h (Retires k) = called h (Retire k)
+held_after h (Reads at what) = called h (look_of at)
 
 -- what is read of the snapshot of the number k where this is held
 abbrev pub told_at : Held → ℕ → Read → List ℕ
@@ -52,6 +52,7 @@ printed_reading h command what (Kept a b) = []
 abbrev pub printed : Held → Command → List ℕ
 printed h (Writes w) = reply_line (Writes w) (reply_at empty_opening h.standing (WriteCall w))
 printed h Checkpoints = reply_line Checkpoints (reply_at empty_opening h.standing Checkpoint)
+printed h Merges = reply_line Merges (reply_at empty_opening (called h Look).standing (Install (newest_held h)))
 printed h (Retires k) = reply_line (Retires k) (reply_at empty_opening h.standing (Retire k))
 printed h (Reads at what) =
     printed_reading (held_after h (Reads at what)) (Reads at what) what (reply_at empty_opening h.standing (look_of at))

@@ -112,7 +112,7 @@ impl Interpreter {
         pages: &mut Steps<L>,
     ) -> Result<(), AllocError>
         requires team { IsTeam team.now.workers }
-        requires room { length self.old.store.journal < 4194304 }
+        requires room { length self.old.store.journal + 1 < 4194304 }
         ensures parser { self.new.parser ≡ self.old.parser }
         ensures held { OnOk result (self.new.store ≡ held_after self.old.store (command_in item)) }
         ensures printed { OnOk result (self.new.out.items ≡ self.old.out.items ++ printed self.old.store (command_in item)) }
@@ -123,7 +123,7 @@ impl Interpreter {
         }
     }
 
-    /// Makes the command's call and gathers what it prints.
+    /// Makes the command's calls and gathers what it prints.
     fn obey<R: Threads + Sync, G: Gate + Sync, L: Ledger>(
         &mut self,
         team: &Team<R, G>,
@@ -131,7 +131,7 @@ impl Interpreter {
         pages: &mut Steps<L>,
     ) -> Result<(), AllocError>
         requires team { IsTeam team.now.workers }
-        requires room { length self.old.store.journal < 4194304 }
+        requires room { length self.old.store.journal + 1 < 4194304 }
         ensures parser { self.new.parser ≡ self.old.parser }
         ensures held { OnOk result (self.new.store ≡ held_after self.old.store command.now) }
         ensures printed { OnOk result (self.new.out.items ≡ self.old.out.items ++ printed self.old.store command.now) }
@@ -144,6 +144,10 @@ impl Interpreter {
             }
             Command::Checkpoint => {
                 let reply = self.store.checkpoint(pages)?;
+                print_reply(&mut self.out, command, &reply)
+            }
+            Command::Merge => {
+                let reply = self.store.merge(team.alloc, pages)?;
                 print_reply(&mut self.out, command, &reply)
             }
             Command::Retire { k } => {

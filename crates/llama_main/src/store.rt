@@ -6,15 +6,18 @@ ghost use Rattle.lama_model.specs.Opening.{empty_opening};
 ghost use Rattle.lama_model.specs.Journal.{reply_at};
 ghost use Rattle.lama_model.specs.Text.{look_of};
 ghost use Rattle.lama_model.specs.declared.answers.Reply.TheVariants.{Snapshot as SeenSnapshot};
-ghost use Rattle.lama_model.specs.declared.calls.Call.TheVariants.{Write as WriteCall, Checkpoint, Look, LookAt, Retire};
+ghost use Rattle.lama_model.specs.declared.calls.Call.TheVariants.{Write as WriteCall, Checkpoint, Look, LookAt, Install, Retire};
 ghost use Rattle.lama_book.specs.Relation.{IsBookOf};
 ghost use Rattle.llama_main.specs.Store.{held_by, called, IsFound};
+ghost use Rattle.llama_main.specs.Expected.{newest_held};
 
 use lama_book::{Book, Looked, Opening};
+use lama_merge::Merged;
 use lama_model::{PlainRows, Reply, Write};
 use lama_pages::Steps;
 use std::alloc::{AllocError, Global};
 use std::marker::Model;
+use std::sync::Arc;
 use std::sync::ledger::Ledger;
 
 /// The calls of a script, answered by a book.
@@ -82,6 +85,26 @@ impl Store {
         ensures err { OnErr result (self.new ≡ self.old) }
     {
         let Ok(reply) = self.book.checkpoint(0, pages) else {
+            return Err(AllocError);
+        };
+        Ok(reply)
+    }
+
+    /// Gathers the levels of the newest snapshot into a base, and installs it.
+    pub fn merge<L: Ledger>(
+        &mut self,
+        alloc: Global,
+        pages: &mut Steps<L>,
+    ) -> Result<Reply, AllocError>
+        ensures reply { IfOk result (λ r. r ≡ reply_at empty_opening (called self.old Look).standing (Install (newest_held self.old))) }
+        ensures after { OnOk result (self.new ≡ called (called self.old Look) (Install (newest_held self.old))) }
+    {
+        let Ok(newest) = self.book.look(0) else {
+            return Err(AllocError);
+        };
+        let merged = Merged::build(alloc, &newest, pages)?;
+        let merged = Arc::new(alloc, merged)?;
+        let Ok(reply) = self.book.install(0, &merged, pages) else {
             return Err(AllocError);
         };
         Ok(reply)

@@ -145,6 +145,35 @@ fn retired_snapshots_are_gone(rt: HostRuntime) -> Result<(), Fail> {
 }
 
 #[test]
+fn merges_change_no_snapshot(rt: HostRuntime) -> Result<(), Fail> {
+    let done: [(&[u8], &[u8]); 4] = [
+        (
+            b"vertices 3\nadd 0 1\ncheckpoint\nadd 0 2\ncheckpoint\nmerge\ndel 0 1\ncheckpoint\nasof 2 0\nasof 1 0\nasof 3 0\n",
+            b"vertices 3\nsnapshot 1\nsnapshot 2\nmerged 2\nsnapshot 3\nasof 3 2 0 : 2 1\nno snapshot 1 of 2 3\nasof 3 3 0 : 2\nend 12\n",
+        ),
+        // Twice in a row, and on the opening.
+        (
+            b"vertices 2\nadd 0 1\ncheckpoint\nmerge\nmerge\nrow 0\nasof 0 0\nasof 1 0\n",
+            b"vertices 2\nsnapshot 1\nmerged 1\nmerged 1\nrow 1 0 : 1/1\nno snapshot 0 of 1 1\nasof 1 1 0 : 1\nend 10\n",
+        ),
+        (
+            b"merge\nrow 0\nvertices 1\nadd 0 0\ncheckpoint\nmerge\nedges\n",
+            b"merged 0\nunknown vertex 0 of 0\nvertices 1\nsnapshot 1\nmerged 1\nedges 1 1\n0 0 1\nend 9\n",
+        ),
+        // Deletions and new weights above the merged number, an older snapshot with its own floor, and a merge after a
+        // retirement.
+        (
+            b"vertices 3\nadd 0 1 5\nadd 0 2 6\ncheckpoint\nadd 0 0 7\ncheckpoint\nmerge\ndel 0 1\nweigh 0 2 9\ncheckpoint\n@1 row 0\n@2 row 0\nrow 0\n@1 asof 1 0\n@2 asof 1 0\nretire 2\nmerge\ndel 0 0\ncheckpoint\n@2 row 0\n@3 row 0\nrow 0\nasof 3 0\nasof 2 0\n",
+            b"vertices 3\nsnapshot 1\nsnapshot 2\nmerged 2\nsnapshot 3\nrow 1 0 : 2/6 1/5\nrow 2 0 : 0/7 2/6 1/5\nrow 3 0 : 0/7 2/9\nasof 1 1 0 : 2 1\nno snapshot 1 of 2 2\nkept 2 3\nmerged 3\nsnapshot 4\nrow 2 0 : 0/7 2/6 1/5\nrow 3 0 : 0/7 2/9\nrow 4 0 : 2/9\nasof 4 3 0 : 0 2\nno snapshot 2 of 3 4\nend 26\n",
+        ),
+    ];
+    for (script, text) in done {
+        gives(&rt, script, text, Status::Done)?;
+    }
+    Ok(())
+}
+
+#[test]
 fn earlier_rows_are_read_through_later_snapshots(rt: HostRuntime) -> Result<(), Fail> {
     let done: [(&[u8], &[u8]); 4] = [
         (

@@ -8,4 +8,4 @@ use Rattle.lama_model.proofs.examples.earlier_graphs.Goals as goal
 
 pub returns : goal.returns
 unfolding digits reply_to_write reply_at after standing lines words number read_of command_of meaning refusal_line reply_line as_of_line last_line read_lines text
-returns c = record { as_of = refl; retired = refl; still_told = refl }
+returns c = record { as_of = refl; retired = refl; merged = refl; still_told = refl }

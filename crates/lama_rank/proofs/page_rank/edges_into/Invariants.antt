@@ -1,9 +1,7 @@
-use Rattle.std.proofs.Common.{◌≡◌, ◌-◌, ◌++◌, length}
-use Rattle.std.specs.List.{range_with_len}
-use Rattle.lama_model.specs.Row.{edges_from}
-use Rattle.lama_rank.specs.Rounds.{all_edges, edges_to}
+use Rattle.std.proofs.Common.{◌≡◌, ◌++◌, drop}
+use Rattle.std.specs.List.{flat_map}
+use Rattle.lama_rank.specs.Rounds.{edges_to}
 use Rattle.lama_rank.proofs.page_rank.edges_into.Given as goal
 
-abbrev pub invariant-loop-u : goal.invariant-loop-u
-invariant-loop-u g l = l.found.items ++ edges_to l.start l.end (edges_from (g.R.Rows.rows l.rows) (range_with_len l.u (length (g.R.Rows.rows l.rows) - l.u)))
-    ≡ edges_to l.start l.end (all_edges (g.R.Rows.rows l.rows))
+abbrev pub invariant-loop-list : goal.invariant-loop-list
+invariant-loop-list l = l.found.items ++ edges_to l.start l.end (flat_map (λ list. list.items) (drop l.list-index l.lists)) ≡ edges_to l.start l.end (flat_map (λ list. list.items) l.lists)

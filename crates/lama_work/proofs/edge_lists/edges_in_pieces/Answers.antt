@@ -6,7 +6,7 @@ use Rattle.lama_work.specs.Pieces.{piece_start}
 use Rattle.lama_work.proofs.Cover.{starts-rise, starts-within, cover, both-ok}
 use Rattle.lama_model.specs.Row.{edges_from}
 use Rattle.lama_model.proofs.EdgePairs.{edges-join}
-use Rattle.lama_label.proofs.lowering.edges_in_pieces.Goals as goal
+use Rattle.lama_work.proofs.edge_lists.edges_in_pieces.Goals as goal
 
 pub map_pieces-requires-clause-accepts : goal.map_pieces-requires-clause-accepts
 map_pieces-requires-clause-accepts g c = λ life outlives i lt.
