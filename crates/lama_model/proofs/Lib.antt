@@ -18,3 +18,4 @@ pub mod LabelLaw
 pub mod RankLaw
 pub mod EdgePairs
 pub mod GraphSteps
+pub mod PassLemmas

@@ -16,3 +16,4 @@ pub mod Text
 pub mod Examples
 pub mod Packed
 pub mod Laws
+pub mod Pass

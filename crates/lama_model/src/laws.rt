@@ -1,6 +1,6 @@
 //! Laws of the definitions alone, for every opening and every journal.
 
-ghost use Rattle.std.specs.Prelude.{◌≡◌, ◌+◌, ◌*◌, ◌<◌, ◌≤◌, ◌++◌, [], ◌∷◌, ℕ, List, length, map, sum};
+ghost use Rattle.std.specs.Prelude.{◌≡◌, ◌+◌, ◌*◌, ◌<◌, ◌≤◌, ◌++◌, [], ◌∷◌, ℕ, List, drop, length, map, sum};
 ghost use Rattle.std.specs.List.{range_with_len};
 ghost use Rattle.lama_model.specs.Graph.{Graph, IsGraph};
 ghost use Rattle.lama_model.specs.Row.{row, AreSame};
@@ -12,7 +12,9 @@ ghost use Rattle.lama_model.specs.Change.{change_between, graph_after, row_after
 ghost use Rattle.lama_model.specs.Opening.{Opening, IsOpening, first_number, last_number};
 ghost use Rattle.lama_model.specs.Journal.{begun, standing, newest, oldest, floor_at, graph, change, cut};
 ghost use Rattle.lama_model.specs.Laws.{count_made};
+ghost use Rattle.lama_model.specs.Pass.{Pass, StepsTo};
 ghost use Rattle.lama_model.specs.declared.calls.Call.TheVariants.{Install};
+ghost use Rattle.lama_model.specs.declared.calls.Call.{Call};
 ghost use Rattle.lama_model.specs.declared.calls.Entry.{Entry};
 ghost use Rattle.lama_model.specs.declared.calls.Write.{Write};
 
@@ -88,4 +90,9 @@ pub fn ranks_are_of_rows()
     ensures ranks { (g h : Graph) (i : ℕ) → IsGraph g → IsGraph h → AreSame g h → ranks g i ≡ ranks h i }
     ensures degrees { (g h : Graph) → AreSame g h → out_degrees g ≡ out_degrees h }
     ensures edges { (g h : Graph) → IsGraph g → IsGraph h → AreSame g h → length g.edges ≡ length h.edges }
+{}
+
+/// A caller who is alone has made each call that the journal has from the start on.
+pub fn one_caller_sees_its_own_calls()
+    ensures { (v w : Pass) (call : Call) (place : ℕ) → v.caller ≡ 1 → StepsTo 1 v call place w → drop w.start w.seen ≡ w.own }
 {}
