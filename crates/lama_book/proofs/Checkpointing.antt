@@ -154,3 +154,19 @@ checkpoint-stays o b b' e h call accepted of =
         let this : newest_of o (standing o b.journal) + 1 ≡ k = omega (arith, high, ge) in
         subst (IsSnapshotOf o (done Checkpoint (standing o b.journal)) k) (sym (get_or_push b.kept (last_snap b') no_snap (k - (standing o b.journal).oldest) (omega (arith, numbers, old, low, this))))
         (subst (λ i. IsSnapshotOf o (done Checkpoint (standing o b.journal)) i (last_snap b')) this new)
+
+-- the newest snapshot is that of the newest number
+pub newest-of : (o : Opening) (b : Book) → IsBookOf o b → IsSnapshotOf o (standing o b.journal) (newest_of o (standing o b.journal)) (last_snap b)
+newest-of o b of =
+    let s = standing o b.journal in
+    let from = (sound o of.is b.journal).is.oldest in
+    let numbers = of.numbers in
+    let old = of.oldest_is in
+    subst (λ i. IsSnapshotOf o s (newest_of o s) (get_or b.kept i no_snap)) (let e : newest_of o s - s.oldest ≡ length b.kept - 1 = omega (arith, numbers, old, from) in e) (of.each (newest_of o s) from (omega arith))
+
+-- the change that the next checkpoint makes is that of the writes since the newest number
+pub next-of : (o : Opening) (b : Book) → IsBookOf o b → next_change b ≡ change_between (graph_of o (standing o b.journal) (newest_of o (standing o b.journal))) (standing o b.journal).pending (newest_of o (standing o b.journal) + 1)
+next-of o b of =
+    let s = standing o b.journal in
+    let sd = sound o of.is b.journal in
+    next-is o b (graph_of o s (newest_of o s)) s (newest-of o b of).rows (graph-is o s (newest_of o s) of.is sd (omega arith)) of.pending_is of.count_is sd.is.stands (newest-is o b of)

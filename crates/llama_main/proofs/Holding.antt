@@ -14,6 +14,7 @@ use Rattle.lama_model.proofs.StandingLemmas.{standing-push, is_standing}
 use Rattle.lama_snapshot.specs.Snap.{Snap, no_snap}
 use Rattle.lama_book.specs.Book.{Book, last_snap, snap_at, newest_number}
 use Rattle.lama_book.specs.Relation.{IsSnapshotOf, IsBookOf}
+use Rattle.lama_book.proofs.Checkpointing.{newest-of}
 use Rattle.lama_book.proofs.Answering.{newest-is}
 use Rattle.lama_book.proofs.Telling.{told-before}
 use Rattle.lama_book.proofs.Keeping.{after-look, after-look_at}
@@ -41,28 +42,19 @@ found journal t k r x same is within opening of = record {
   });
 }
 
--- the newest snapshot is that of the newest number
-pub newest-of : (b : Book) → IsBookOf empty_opening b → IsSnapshotOf empty_opening (standing empty_opening b.journal) (newest_of empty_opening (standing empty_opening b.journal)) (last_snap b)
-newest-of b of =
-    let s = standing empty_opening b.journal in
-    let from = (is_standing empty_opening of.is b.journal).oldest in
-    let numbers = of.numbers in
-    let old = of.oldest_is in
-    subst (λ i. IsSnapshotOf empty_opening s (newest_of empty_opening s) (get_or b.kept i no_snap)) (let e : newest_of empty_opening s - s.oldest ≡ length b.kept - 1 = omega (arith, numbers, old, from) in e) (of.each (newest_of empty_opening s) from (omega arith))
-
 reply-look : (s : Standing) → reply_at empty_opening s Look ≡ Snapshot (newest_of empty_opening s)
 unfolding reply_at
 reply-look s = refl
 
 pub look-reply : (b : Book) (x : Snap) (n : ℕ) → IsBookOf empty_opening b → x ≡ last_snap b → n ≡ x.number → Snapshot n ≡ reply_at empty_opening (standing empty_opening b.journal) Look
 look-reply b x n of is number =
-    ap (λ k. Snapshot k) (number ∙ (ap (λ (y : Snap). y.number) is ∙ (newest-of b of).number)) ∙ sym (reply-look (standing empty_opening b.journal))
+    ap (λ k. Snapshot k) (number ∙ (ap (λ (y : Snap). y.number) is ∙ (newest-of empty_opening b of).number)) ∙ sym (reply-look (standing empty_opening b.journal))
 
 pub look-found : (b : Book) (j : List Entry) (x : Snap) (n : ℕ) → IsBookOf empty_opening b → j ≡ b.journal ++ record { caller = 0; call = Look } ∷ [] → x ≡ last_snap b → n ≡ x.number → IsFound (standing empty_opening j) (Snapshot n) x
 look-found b j x n of longer is number =
     let s = standing empty_opening b.journal in
     let k = newest_of empty_opening s in
-    let new = newest-of b of in
+    let new = newest-of empty_opening b of in
     found b.journal (standing empty_opening j) k (Snapshot n) x (ap (standing empty_opening) longer ∙ (standing-push empty_opening b.journal (record { caller = 0; call = Look }) ∙ after-look empty_opening s))
     (ap (λ m. Snapshot m) (number ∙ (ap (λ (y : Snap). y.number) is ∙ new.number))) (omega arith) of.is (subst (IsSnapshotOf empty_opening s k) (sym is) new)
 

@@ -9,7 +9,8 @@ use Rattle.lama_book.specs.Relation.{IsMergedOf}
 use Rattle.lama_book.proofs.Installing.{may-install, merged-longer, merged-newest}
 use Rattle.llama_main.specs.Store.{held_by, called}
 use Rattle.llama_main.specs.Expected.{newest_held}
-use Rattle.llama_main.proofs.Holding.{holds, newest-of}
+use Rattle.llama_main.proofs.Holding.{holds}
+use Rattle.lama_book.proofs.Checkpointing.{newest-of}
 use Rattle.llama_main.proofs.store.Store.merge.Goals as goal
 
 pub install-requires : goal.install-requires
@@ -30,7 +31,7 @@ returns-clause-reply g c =
     let number : (arc_value c.in_ok-merged-2.merged).number ≡ newest_held now =
     ap (λ (x : Numbered). x.number) c.in_ok-merged-2.ensures.ok
     ∙ (c.in_ok-merged.ensures.number ∙ (ap (λ (x : Snap). x.number) (c.deref.ensures ∙ c.in-Ok.ensures.snapshot)
-    ∙ ((newest-of old c.self.invariant).number ∙ ap newest_held c.self.view_is))) in
+    ∙ ((newest-of empty_opening old c.self.invariant).number ∙ ap newest_held c.self.view_is))) in
     c.in-Ok-install.ensures.reply empty_opening (c.in-Ok.ensures.book empty_opening c.self.invariant)
     ∙ (λ j. reply_at empty_opening (held j).standing (Install (number j)))
 
@@ -42,6 +43,6 @@ returns-clause-after g c =
     let number : (arc_value c.in_ok-merged-2.merged).number ≡ newest_held now =
     ap (λ (x : Numbered). x.number) c.in_ok-merged-2.ensures.ok
     ∙ (c.in_ok-merged.ensures.number ∙ (ap (λ (x : Snap). x.number) (c.deref.ensures ∙ c.in-Ok.ensures.snapshot)
-    ∙ ((newest-of old c.self.invariant).number ∙ ap newest_held c.self.view_is))) in
+    ∙ ((newest-of empty_opening old c.self.invariant).number ∙ ap newest_held c.self.view_is))) in
     holds c.look.new.self.journal c.install.new.self.journal (called now Look) (Install (arc_value c.in_ok-merged-2.merged).number) c.in-Ok-install.ensures.entry held
     ∙ ap (λ n. called (called now Look) (Install n)) number
