@@ -1,5 +1,5 @@
 -- What a book gives, as the lane's asks name it.
-use Rattle.std.proofs.Common.{◌≡◌, ◌≢◌, List, [], ◌∷◌, ◌++◌, ℕ, ◌+◌, ◌≤◌, sym, ap, ◌∙◌, subst, Global}
+use Rattle.std.proofs.Common.{arith, ◌≡◌, ◌≢◌, List, [], ◌∷◌, ◌++◌, ℕ, ◌+◌, ◌≤◌, sym, ap, ◌∙◌, subst, Global}
 use Rattle.std.specs.declared.sync.Arc.{Arc}
 use Rattle.std.specs.Arc.{arc_value}
 use Rattle.lama_model.specs.Bounds.{checkpoint_pages}
@@ -8,11 +8,12 @@ use Rattle.std.specs.Prelude.{MatchOption}
 use Rattle.lama_model.specs.declared.calls.Call.TheVariants.{Look as LookCall, LookAt as LookAtCall}
 use Rattle.lama_model.specs.declared.calls.Entry.{Entry}
 use Rattle.lama_model.specs.declared.answers.Reply.TheVariants.{Snapshot}
+use Rattle.lama_model.proofs.JournalLaws.{newest-rises}
 use Rattle.lama_model.proofs.StandingLemmas.{standing-push}
 use Rattle.lama_book.specs.declared.book.Looked.{Looked}
 use Rattle.lama_book.proofs.Keeping.{after-look, after-look_at}
 use Rattle.lama_model.specs.Opening.{Opening}
-use Rattle.lama_model.specs.Journal.{Standing, standing, newest_of}
+use Rattle.lama_model.specs.Journal.{Standing, standing, newest, newest_of}
 use Rattle.lama_snapshot.specs.Snap.{Snap}
 use Rattle.lama_snapshot.specs.declared.snapshot.Snapshot.{Snapshot as Kept_snapshot}
 use Rattle.lama_book.specs.Book.{Book, next_change, last_snap}
@@ -51,3 +52,9 @@ pub looked-at : (o : Opening) (seen j : List Entry) (caller k : ℕ) (g : Given)
 looked-at o seen j caller k g l e is gives =
     subst (λ (s : Standing). MatchOption l.snapshot ((n : ℕ) → l.reply ≢ Snapshot n) (λ a. (l.reply ≡ Snapshot k) × IsSnapshotOf o s k (arc_value a))) (look_at-leaves o seen j caller k e)
     (subst (λ x. Gives o j (LookAt k) x) is gives).1
+
+-- and no older than what was known of
+pub looked-later : (o : Opening) (old j more : List Entry) (g : Given) (a : Arc Kept_snapshot Global) → j ≡ old ++ more → g ≡ Newest a → Gives o j Look g → newest o old ≤ (arc_value a).number
+looked-later o old j more g a e is gives =
+    let s = subst (λ x. Gives o j Look x) is gives in
+    omega (arith, newest-rises o old more, s.number, ap (newest o) e)

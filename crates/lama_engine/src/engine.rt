@@ -3,7 +3,7 @@ ghost use Rattle.std.specs.List.{range_with_len};
 ghost use Rattle.std.specs.Arc.{arc_value};
 ghost use Rattle.lama_model.specs.Bounds.{checkpoint_pages};
 ghost use Rattle.lama_model.specs.Opening.{Opening as ModelOpening};
-ghost use Rattle.lama_model.specs.Journal.{standing, newest_of, reply};
+ghost use Rattle.lama_model.specs.Journal.{standing, newest, newest_of, reply};
 ghost use Rattle.lama_model.specs.Pass.{SeesMore, StepsTo, BeginsWith, IsByOneOf, calls_by};
 ghost use Rattle.lama_model.specs.declared.calls.Call.TheVariants.{Write as SeenWrite, Checkpoint as SeenCheckpoint, Look as SeenLook, LookAt as SeenLookAt, Retire as SeenRetire};
 ghost use Rattle.lama_model.specs.declared.answers.Reply.TheVariants.{Snapshot as SeenSnapshot};
@@ -112,7 +112,7 @@ impl Engine {
         }
     }
 
-    /// Hands out the newest snapshot.
+    /// Hands out the newest snapshot. Its number is never below one that the lane knew of.
     pub fn look<R: Wait>(
         &self,
         rt: &R,
@@ -122,6 +122,7 @@ impl Engine {
         ensures ours { IsPassOf self.now pass.new }
         ensures call { IfOk result (λ p. StepsTo self.now.callers pass.old.known SeenLook p.place pass.new.known) }
         ensures snapshot { IfOk result (λ p. (o : ModelOpening) → IsBookOf o self.now.start → IsSnapshotOf o (standing o pass.new.known.seen) (newest_of o (standing o pass.new.known.seen)) (arc_value p.answer)) }
+        ensures later { IfOk result (λ p. (o : ModelOpening) → IsBookOf o self.now.start → newest o pass.old.known.seen ≤ (arc_value p.answer).number) }
         ensures unserved { OnErr result (SeesMore pass.old.known pass.new.known) }
         ensures full { result ≡ SeenErr JournalFull → length pass.new.known.seen ≡ 4194304 }
     {
