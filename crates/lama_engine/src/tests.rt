@@ -218,6 +218,34 @@ fn a_lane_retires_and_looks(rt: HostRuntime) -> Result<(), Fail> {
     Ok(())
 }
 
+// Whether a book of one call is the same after a start, be it refused for want of memory or begun and finished at once.
+fn comes_back<L: Ledger>(alloc: Global, blank: Blank) -> Result<bool, AllocError>
+    requires name { blank.name ≡ L.name }
+    requires parts { blank.parts ≡ L.parts }
+    requires one { blank.parts ≡ 1 }
+{
+    let mut pages = Steps::<L>::open(blank);
+    let mut book = empty_book(alloc, &mut pages)?;
+    let Ok(_) = book.write(7, Write::Vertices(3)) else {
+        return Err(AllocError);
+    };
+    let book = match Engine::start(alloc, book, 2) {
+        Ok((engine, passes)) => engine.finish(passes)?,
+        Err(book) => book,
+    };
+    let only = Entry {
+        caller: 7,
+        call: Call::Write(Write::Vertices(3)),
+    };
+    Ok(book.journal() == [only].as_slice())
+}
+
+#[test]
+fn a_start_hands_its_book_back(rt: HostRuntime) -> Result<(), Fail> {
+    assert!(rt; comes_back::<Brand>(rt.alloc(), Blank::new(1))?);
+    Ok(())
+}
+
 // What a lane was told: its number, and the places and replies of its calls.
 #[derive(Drop)]
 struct Told {
