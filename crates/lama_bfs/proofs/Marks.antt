@@ -9,7 +9,16 @@ use Rattle.std.proofs.lemmas.List.Elements.{filter-append}
 use Rattle.std.proofs.lemmas.Grind.{flat_map-append}
 use Rattle.lama_model.specs.Row.{row_at}
 use Rattle.lama_model.specs.Levels.{is_among}
-use Rattle.lama_bfs.specs.Frontier.{is_new, targets_of, new_targets, mark_one, mark_all, AreMarked}
+use Rattle.lama_bfs.specs.Frontier.{is_new, is_unseen, targets_of, new_targets, AreMarked}
+
+-- a new vertex gets the level, and is one of those that were found last; where there is no such vertex nothing happens
+abbrev pub mark_one : ℕ → ℕ → List (Option ℕ) × List ℕ → List (Option ℕ) × List ℕ
+mark_one level v s = cond {A = List (Option ℕ) × List ℕ} (nat_lt v (length s.0) && is_new s.0 v) (set s.0 v (Some level), s.1 ++ v ∷ []) s
+
+-- the same for each of these vertices, one after another
+abbrev pub mark_all : ℕ → List ℕ → List (Option ℕ) × List ℕ → List (Option ℕ) × List ℕ
+mark_all level [] s = s
+mark_all level (v ∷ vs) s = mark_all level vs (mark_one level v s)
 
 abbrev pub State : Type 0
 State = List (Option ℕ) × List ℕ
@@ -31,10 +40,6 @@ mark-in level v s lt = let here : nat_lt v (length s.0) ≡ true = grind (arith,
 pub length-all : (level : ℕ) (vs : List ℕ) (s : State) → length (mark_all level vs s).0 ≡ length s.0
 length-all level [] s = refl
 length-all level (v ∷ vs) s = length-all level vs (mark_one level v s) ∙ length-one level v s
-
-pub all-append : (level : ℕ) (vs ws : List ℕ) (s : State) → mark_all level (vs ++ ws) s ≡ mark_all level ws (mark_all level vs s)
-all-append level [] ws s = refl
-all-append level (v ∷ vs) ws s = all-append level vs ws (mark_one level v s)
 
 -- one vertex more in a list
 pub among-push : (w : ℕ) (vs : List ℕ) (v : ℕ) → is_among w (vs ++ v ∷ []) ≡ is_among w vs || (v == w)
@@ -163,8 +168,8 @@ module _ (level : ℕ) (before : List (Option ℕ)) where
       (marked-all ws (vs ++ v ∷ []) (mark_one level v s) (marked-more vs s.0 s.1 v h (All-head (λ v. v < length before) v ws below)) (All-tail (λ v. v < length before) v ws below))
 
 -- the new targets of two lists of vertices are those of one and then those of the other
-pub new-joins : (rows : List (List (ℕ × ℕ))) (levels : List (Option ℕ)) (us ws : List ℕ) → new_targets rows levels (us ++ ws) ≡ new_targets rows levels us ++ new_targets rows levels ws
-new-joins rows levels us ws = ap (filter (is_new levels)) (flat_map-append (λ u. map (λ p. p.0) (row_at rows u)) us ws) ∙ filter-append (is_new levels) (targets_of rows us) (targets_of rows ws)
+pub new-joins : (rows : List (List (ℕ × ℕ))) (seen : List Bool) (us ws : List ℕ) → new_targets rows seen (us ++ ws) ≡ new_targets rows seen us ++ new_targets rows seen ws
+new-joins rows seen us ws = ap (filter (is_unseen seen)) (flat_map-append (λ u. map (λ p. p.0) (row_at rows u)) us ws) ∙ filter-append (is_unseen seen) (targets_of rows us) (targets_of rows ws)
 
 -- the targets of two lists of vertices are those of one and then those of the other
 pub targets-join : (rows : List (List (ℕ × ℕ))) (us ws : List ℕ) → targets_of rows (us ++ ws) ≡ targets_of rows us ++ targets_of rows ws

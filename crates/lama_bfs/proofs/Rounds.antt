@@ -1,6 +1,6 @@
 -- What stands between two levels, in a graph that has these rows.
 use Rattle.std.proofs.Common.{◌≡◌, ◌≢◌, ◌∙◌, ℕ, zero, suc, ◌+◌, ◌<◌, ◌≤◌, ◌⊎◌, inl, inr, List, [], ◌∷◌, length, get_or, set, map, replicate, cond, Bool, true, false, Option, None, Some, refl, sym, ap, subst, arith, true≢false}
-use Rattle.std.specs.Prelude.{◌==◌, ◌&&◌, ◌||◌, All, filter, is_none, slice_index_or}
+use Rattle.std.specs.Prelude.{◌==◌, ◌&&◌, ◌||◌, All, is_none, slice_index_or}
 use Rattle.std.specs.List.{list_any, flat_map}
 use Rattle.std.proofs.lemmas.Bool.{cases_eq, cases_lt}
 use Rattle.std.proofs.lemmas.Bool.Decides.{nat_tests}
@@ -8,14 +8,13 @@ use Rattle.std.specs.List.{range_with_len}
 use Rattle.std.proofs.lemmas.List.{length-set, length-map, length-replicate, get_or-replicate, get_or-set_same, get_or-set_other, ext_get_or}
 use Rattle.std.proofs.lemmas.List.FromFn.{length-range_with_len, get_or-map-range_with_len}
 use Rattle.std.proofs.lemmas.List.Folds.{list_any-append}
-use Rattle.std.proofs.lemmas.Map.Views.{any-filter_same}
 use Rattle.lama_model.specs.Graph.{Graph}
 use Rattle.lama_model.specs.Row.{row_at, graph_of_rows, AreTargetsBelow}
 use Rattle.lama_model.proofs.RowsOfGraph.{row-of-rows}
 use Rattle.lama_model.proofs.Leading.{leads-graph}
 use Rattle.lama_model.specs.Levels.{is_among, leads, is_reached, level, levels}
-use Rattle.lama_bfs.specs.Frontier.{is_new, targets_of, new_targets, mark_all, AreMarked}
-use Rattle.lama_bfs.proofs.Marks.{State, marked-none, marked-all}
+use Rattle.lama_bfs.specs.Frontier.{is_new, targets_of, AreMarked}
+use Rattle.lama_bfs.proofs.Marks.{State, mark_all, marked-none, marked-all}
 use Rattle.std.proofs.lemmas.List.Elements.{All-head, All-tail, All-append}
 use Rattle.lama_model.proofs.LevelLaw.{any-found, or-left, reached-step, last-edge, IsFirst, first-is, LeavesVertices, Least, on-way, least-one, least-below}
 
@@ -42,25 +41,6 @@ none-is : (o : Option ℕ) → is_none o ≡ true → o ≡ None
 none-is None e = refl
 none-is (Some x) e = absurd (true≢false (sym e))
 
--- what is written of the new vertices alone is what is written of all
-pub filtered : (level : ℕ) (rows : List (List (ℕ × ℕ))) (us : List ℕ) (before after : List (Option ℕ)) (next : List ℕ)
-    → AreMarked level (new_targets rows before us) before after next → AreMarked level (targets_of rows us) before after next
-filtered level rows us before after next h = record {
-  len = h.len;
-  each = λ v lt. h.each v lt ∙ ap (λ b. cond b (Some level) (slice_index_or before v None)) (same v);
-  next_are = λ v lt. h.next_are v lt ∙ same v;
-  below = h.below;
-}
-  where
-    idem : (a b : Bool) → a && (a && b) ≡ a && b
-    idem true b = refl
-    idem false b = refl
-
-    same : (v : ℕ) → is_new before v && is_among v (new_targets rows before us) ≡ is_new before v && is_among v (targets_of rows us)
-    same v =
-        ap (λ b. is_new before v && b) (any-filter_same (λ u. u == v) (is_new before) (is_new before v) (λ k e. let at : k ≡ v = grind (arith, nat_tests, e) in ap (is_new before) at) (targets_of rows us))
-        ∙ idem (is_new before v) (is_among v (targets_of rows us))
-
 -- the targets of edges are vertices
 targets-below : (n : ℕ) (rows : List (List (ℕ × ℕ))) (us : List ℕ) → AreTargetsBelow n rows → All (λ v. v < n) (targets_of rows us)
 targets-below n rows [] h = λ k d lt. absurd (omega (arith, lt))
@@ -76,30 +56,12 @@ targets-below n rows (u ∷ us) h = All-append (λ v. v < n) (map (λ p. p.0) (r
     firsts (p ∷ ps) h zero d lt = All-head (λ (p : ℕ × ℕ). p.0 < n) p ps h
     firsts (p ∷ ps) h (suc k) d lt = firsts ps (All-tail (λ (p : ℕ × ℕ). p.0 < n) p ps h) k d (omega (arith, lt))
 
-filter-below : (n : ℕ) (p : ℕ → Bool) (vs : List ℕ) → All (λ v. v < n) vs → All (λ v. v < n) (filter p vs)
-filter-below n p [] h = λ k d lt. absurd (omega (arith, lt))
-filter-below n p (v ∷ vs) h = by (p v) (filter-below n p vs (All-tail (λ v. v < n) v vs h))
-  where
-    by : (b : Bool) → All (λ v. v < n) (filter p vs) → All (λ v. v < n) (cond b (v ∷ filter p vs) (filter p vs))
-    by true rest zero d lt = All-head (λ v. v < n) v vs h
-    by true rest (suc k) d lt = rest k d (omega (arith, lt))
-    by false rest k d lt = rest k d lt
-
 -- all targets of a frontier marked
 pub from-all : (level : ℕ) (rows : List (List (ℕ × ℕ))) (us : List ℕ) (before after : List (Option ℕ)) (next : List ℕ) → AreTargetsBelow (length rows) rows → length before ≡ length rows
     → (after, next) ≡ mark_all level (targets_of rows us) (before, []) → AreMarked level (targets_of rows us) before after next
 from-all level rows us before after next targets size is =
     subst (λ (s : State). AreMarked level (targets_of rows us) before s.0 s.1) (sym is)
     (marked-all level before (targets_of rows us) [] (before, []) (marked-none level before) (subst (λ n. All (λ v. v < n) (targets_of rows us)) (sym size) (targets-below (length rows) rows us targets)))
-
--- and the new ones of them alone
-pub from-new : (level : ℕ) (rows : List (List (ℕ × ℕ))) (us : List ℕ) (before after : List (Option ℕ)) (next : List ℕ) → AreTargetsBelow (length rows) rows → length before ≡ length rows
-    → (after, next) ≡ mark_all level (new_targets rows before us) (before, []) → AreMarked level (targets_of rows us) before after next
-from-new level rows us before after next targets size is =
-    filtered level rows us before after next
-    (subst (λ (s : State). AreMarked level (new_targets rows before us) before s.0 s.1) (sym is)
-    (marked-all level before (new_targets rows before us) [] (before, []) (marked-none level before)
-    (subst (λ n. All (λ v. v < n) (new_targets rows before us)) (sym size) (filter-below (length rows) (is_new before) (targets_of rows us) (targets-below (length rows) rows us targets)))))
 
 module _ (rows : List (List (ℕ × ℕ))) (s : ℕ) where
   abbrev g : Graph

@@ -1,5 +1,5 @@
 -- Vertices that are found one level after another.
-use Rattle.std.specs.Prelude.{◌≡◌, ℕ, ◌<◌, ◌&&◌, nat_lt, Bool, List, [], ◌∷◌, ◌++◌, All, filter, map, length, Option, None, Some, is_none, if◌then◌else◌, slice_index_or, slice_set}
+use Rattle.std.specs.Prelude.{◌≡◌, ℕ, ◌<◌, ◌&&◌, nat_lt, not, Bool, true, false, List, [], ◌∷◌, ◌++◌, All, filter, map, length, Option, None, Some, is_none, if◌then◌else◌, slice_index_or, slice_set}
 use Rattle.std.specs.List.{flat_map}
 use Rattle.lama_model.specs.Row.{row_at}
 use Rattle.lama_model.specs.Levels.{is_among}
@@ -8,22 +8,31 @@ use Rattle.lama_model.specs.Levels.{is_among}
 abbrev pub is_new : List (Option ℕ) → ℕ → Bool
 is_new levels v = is_none (slice_index_or levels v None)
 
+-- the vertex was not seen
+abbrev pub is_unseen : List Bool → ℕ → Bool
+is_unseen seen v = not (slice_index_or seen v false)
+
 -- the targets of the edges that leave these vertices
 abbrev pub targets_of : List (List (ℕ × ℕ)) → List ℕ → List ℕ
 targets_of rows us = flat_map (λ u. map (λ p. p.0) (row_at rows u)) us
 
--- those for which no level was found
-abbrev pub new_targets : List (List (ℕ × ℕ)) → List (Option ℕ) → List ℕ → List ℕ
-new_targets rows levels us = filter (is_new levels) (targets_of rows us)
+-- those that were not seen
+abbrev pub new_targets : List (List (ℕ × ℕ)) → List Bool → List ℕ → List ℕ
+new_targets rows seen us = filter (is_unseen seen) (targets_of rows us)
 
--- a new vertex gets the level, and is one of those that were found last; where there is no such vertex nothing happens
-abbrev pub mark_one : ℕ → ℕ → List (Option ℕ) × List ℕ → List (Option ℕ) × List ℕ
-mark_one level v s = if nat_lt v (length s.0) && is_new s.0 v then (slice_set s.0 v (Some level), s.1 ++ v ∷ []) else s
+-- a vertex that was not seen is seen now, and is one of those that were found last; where there is no such vertex nothing happens
+abbrev pub see_one : ℕ → List Bool × List ℕ → List Bool × List ℕ
+see_one v s = if nat_lt v (length s.0) && is_unseen s.0 v then (slice_set s.0 v true, s.1 ++ v ∷ []) else s
 
 -- the same for each of these vertices, one after another
-abbrev pub mark_all : ℕ → List ℕ → List (Option ℕ) × List ℕ → List (Option ℕ) × List ℕ
-mark_all level [] s = s
-mark_all level (v ∷ vs) s = mark_all level vs (mark_one level v s)
+abbrev pub see_all : List ℕ → List Bool × List ℕ → List Bool × List ℕ
+see_all [] s = s
+see_all (v ∷ vs) s = see_all vs (see_one v s)
+
+-- each of these vertices gets the level
+abbrev pub give : ℕ → List ℕ → List (Option ℕ) → List (Option ℕ)
+give level [] levels = levels
+give level (v ∷ vs) levels = give level vs (slice_set levels v (Some level))
 
 -- of these vertices each new one has got the level, and next are those that have
 pub record AreMarked (level : ℕ) (vs : List ℕ) (before after : List (Option ℕ)) (next : List ℕ) : Type 0 where

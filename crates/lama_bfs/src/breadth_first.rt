@@ -7,16 +7,11 @@ ghost use Rattle.lama_bfs.specs.Flat.{IsFlat};
 
 use crate::flat::Flat;
 use crate::frontier::Search;
+use crate::kept::Kept;
 use lama_base::Gate;
 use lama_model::Rows;
 use std::alloc::{AllocError, Global};
 use std::thread::Threads;
-
-// A frontier of fewer vertices is not worth laying the rows flat for.
-const LARGE: usize = 400;
-
-// Nor is one that has less than this part of all vertices: one in so many.
-const PART: usize = 32;
 
 /// The level of each vertex from `source`, by its number: the least number of edges of a walk to it, and None where no
 /// walk leads to it. The source itself has level 0.
@@ -24,8 +19,8 @@ const PART: usize = 32;
 /// Breadth-first search: from one frontier, the vertices of a level, to the next. Each vertex is marked when it is found,
 /// so the time is by the vertices of the graph and the edges that are reached. A large frontier is cut into a piece for
 /// each worker, and a piece reaches the gate before its work; a small one, and every one where there is one worker, is
-/// expanded by the caller. One worker that comes to a frontier of a large part of the graph first puts the targets of all
-/// rows into one array, which costs all vertices and edges once, and four bytes for each. The only error is want of memory.
+/// expanded by the caller. Where a frontier is a large part of the graph, the targets of all rows are first put into one
+/// array, which costs all vertices and edges once, and four bytes for each. The only error is want of memory.
 pub fn levels<T: Threads + Sync, R: Rows + Sync, G: Gate + Sync>(
     rt: &T,
     alloc: Global,
@@ -46,43 +41,27 @@ where
     let count = rows.count();
     let mut levels = vec![in alloc; None; count as usize]?;
     levels[source as usize] = Some(0);
-    let mut search = Search {
-        levels,
-        next: vec![in alloc; source]?,
-        spare: Vec::new(alloc),
-    };
+    let mut seen = vec![in alloc; false; count as usize]?;
+    seen[source as usize] = true;
+    let mut next = Kept::new(alloc);
+    next.put(source, true)?;
+    let mut search = Search { seen, next };
+    let mut frontier = Kept::new(alloc);
     let mut flat = None;
     let mut level = 0;
-    while !search.next.is_empty() {
+    while search.next.len() > 0 {
         level += 1;
-        lay_flat(alloc, rows, &mut flat, search.next.len(), workers)?;
-        search.next_level(rt, alloc, rows, &flat, level, workers, gate)?;
+        search.next_level(
+            rt,
+            alloc,
+            rows,
+            &mut flat,
+            level,
+            &mut frontier,
+            &mut levels,
+            workers,
+            gate,
+        )?;
     }
-    let Search { levels, .. } = search;
     Ok(levels)
-}
-
-// Lays the rows flat, where they are not so yet and one worker comes to a frontier that is so large a part of all vertices
-// that most of them may be expected to follow it.
-#[inline(always)]
-fn lay_flat<R: Rows>(
-    alloc: Global,
-    rows: &R,
-    flat: &mut Option<Flat>,
-    frontier: usize,
-    workers: u32,
-) -> Result<(), AllocError>
-    requires edges { edges_in (R.rows rows.now) ≤ 33554432 }
-    requires flat { IfSome flat.old (λ f. IsFlat (R.rows rows.now) f.starts.items f.targets.items) }
-    ensures { OnOk result (IfSome flat.new (λ f. IsFlat (R.rows rows.now) f.starts.items f.targets.items)) }
-{
-    if frontier < LARGE
-        || workers > 1
-        || flat.is_some()
-        || frontier < rows.count() as usize / PART
-    {
-        return Ok(());
-    }
-    *flat = Some(Flat::of(alloc, rows)?);
-    Ok(())
 }

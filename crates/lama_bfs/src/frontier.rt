@@ -1,20 +1,27 @@
 // From one level to the next.
-ghost use Rattle.std.specs.Prelude.{◌≡◌, ◌-◌, ◌<◌, ◌≤◌, ◌^◌, ◌++◌, [], ◌∷◌, All, IfOk, IfSome, OnOk, drop, filter, flat_map, length, map, take, if◌then◌else◌};
-ghost use Rattle.lama_model.specs.Row.{row_at};
-ghost use Rattle.lama_bfs.specs.Frontier.{is_new, targets_of, new_targets, mark_one, mark_all, AreMarked};
+ghost use Rattle.std.specs.Prelude.{◌≡◌, ◌-◌, ◌<◌, ◌≤◌, ◌^◌, ◌++◌, [], ◌∷◌, All, IfOk, IfSome, OnOk, drop, filter, flat_map, length, map, take, if◌then◌else◌, is_some};
+ghost use Rattle.lama_model.specs.Row.{edges_in, row_at, AreTargetsBelow};
+ghost use Rattle.lama_bfs.specs.Frontier.{is_unseen, targets_of, new_targets, see_one, see_all, give, AreMarked};
 ghost use Rattle.lama_bfs.specs.Flat.{IsFlat};
 
 use crate::flat::Flat;
+use crate::kept::Kept;
 use lama_base::Gate;
 use lama_base::limits::MAX_VERTICES;
 use lama_model::Rows;
 use lama_work::map_pieces;
 use std::alloc::{AllocError, Global};
-use std::mem::replace;
+use std::mem::swap;
 use std::thread::Threads;
 
 // A frontier of fewer vertices is expanded where it stands: a thread takes longer to start than it would save.
 const FEW: usize = 400;
+
+// A frontier of fewer vertices is not worth laying the rows flat for.
+const LARGE: usize = 400;
+
+// Nor is one that has less than this part of all vertices: one in so many.
+const PART: usize = 32;
 
 // The first edges of so many vertices are looked up before the first of them is used, so that a machine may wait for all
 // of them at once.
@@ -26,44 +33,44 @@ const MANY: usize = MAX_VERTICES as usize;
 // What was found so far.
 #[derive(Drop)]
 pub(crate) struct Search {
-    // The level of each vertex that was found.
-    pub levels: Vec<Option<u32>>,
+    // Whether each vertex was found: a byte for each, so that much of it stays near the processor.
+    pub seen: Vec<bool>,
     // The vertices that were found last.
-    pub next: Vec<u32>,
-    // Room for the next ones: what was a frontier before.
-    pub spare: Vec<u32>,
+    pub next: Kept,
 }
 
 impl Search {
-    // Gives a vertex the level, where it has none yet.
+    // Marks a vertex as found, where it was not yet. No branch asks for that, since it follows no pattern.
     #[inline(always)]
-    fn mark(&mut self, level: u32, v: u32) -> Result<(), AllocError>
-        ensures { OnOk result ((self.new.levels.items, self.new.next.items) ≡ mark_one level v (self.old.levels.items, self.old.next.items)) }
+    fn mark(&mut self, v: u32) -> Result<(), AllocError>
+        ensures { OnOk result ((self.new.seen.items, self.new.next) ≡ see_one v (self.old.seen.items, self.old.next)) }
     {
-        if (v as usize) < self.levels.len() && self.levels[v as usize].is_none() {
-            self.next.push(v)?;
-            self.levels[v as usize] = Some(level);
+        if (v as usize) < self.seen.len() {
+            let is_new = !self.seen[v as usize];
+            self.seen[v as usize] = true;
+            self.next.put(v, is_new)?;
         }
         Ok(())
     }
 
     // The same for the targets of a vertex's edges.
-    fn mark_row<R: Rows>(&mut self, rows: &R, level: u32, u: u32) -> Result<(), AllocError>
+    #[inline(always)]
+    fn mark_row<R: Rows>(&mut self, rows: &R, u: u32) -> Result<(), AllocError>
         requires { u < length (R.rows rows.now) }
-        ensures { OnOk result ((self.new.levels.items, self.new.next.items) ≡ mark_all level (map (λ p. p.0) (row_at (R.rows rows.now) u)) (self.old.levels.items, self.old.next.items)) }
+        ensures { OnOk result ((self.new.seen.items, self.new.next) ≡ see_all (map (λ p. p.0) (row_at (R.rows rows.now) u)) (self.old.seen.items, self.old.next)) }
     {
-        self.mark_rest(rows, level, rows.start(u))
+        self.mark_rest(rows, rows.start(u))
     }
 
     // The same for the targets of a row from a place on.
     #[inline(always)]
-    fn mark_rest<R: Rows>(&mut self, rows: &R, level: u32, start: R::At) -> Result<(), AllocError>
+    fn mark_rest<R: Rows>(&mut self, rows: &R, start: R::At) -> Result<(), AllocError>
         requires { R.is_place rows.now start }
-        ensures { OnOk result ((self.new.levels.items, self.new.next.items) ≡ mark_all level (map (λ p. p.0) (R.suffix rows.now start)) (self.old.levels.items, self.old.next.items)) }
+        ensures { OnOk result ((self.new.seen.items, self.new.next) ≡ see_all (map (λ p. p.0) (R.suffix rows.now start)) (self.old.seen.items, self.old.next)) }
     {
         let mut at = start;
         while let Some((target, _, rest)) = rows.next(at) {
-            self.mark(level, target)?;
+            self.mark(target)?;
             at = rest;
         }
         Ok(())
@@ -71,26 +78,20 @@ impl Search {
 
     // The same for a target and those of the row from a place on.
     #[inline(always)]
-    fn mark_first<R: Rows>(
-        &mut self,
-        rows: &R,
-        level: u32,
-        first: u32,
-        rest: R::At,
-    ) -> Result<(), AllocError>
+    fn mark_first<R: Rows>(&mut self, rows: &R, first: u32, rest: R::At) -> Result<(), AllocError>
         requires { R.is_place rows.now rest }
-        ensures { OnOk result ((self.new.levels.items, self.new.next.items) ≡ mark_all level (first ∷ map (λ p. p.0) (R.suffix rows.now rest)) (self.old.levels.items, self.old.next.items)) }
+        ensures { OnOk result ((self.new.seen.items, self.new.next) ≡ see_all (first ∷ map (λ p. p.0) (R.suffix rows.now rest)) (self.old.seen.items, self.old.next)) }
     {
-        self.mark(level, first)?;
-        self.mark_rest(rows, level, rest)
+        self.mark(first)?;
+        self.mark_rest(rows, rest)
     }
 
     // The same for each of these vertices.
-    fn mark_list(&mut self, level: u32, vs: &[u32]) -> Result<(), AllocError>
-        ensures { OnOk result ((self.new.levels.items, self.new.next.items) ≡ mark_all level vs.now (self.old.levels.items, self.old.next.items)) }
+    fn mark_list(&mut self, vs: &[u32]) -> Result<(), AllocError>
+        ensures { OnOk result ((self.new.seen.items, self.new.next) ≡ see_all vs.now (self.old.seen.items, self.old.next)) }
     {
         for &v in vs {
-            self.mark(level, v)?;
+            self.mark(v)?;
         }
         Ok(())
     }
@@ -100,44 +101,85 @@ impl Search {
         &mut self,
         alloc: Global,
         rows: &R,
-        level: u32,
         us: &[u32],
     ) -> Result<(), AllocError>
         requires { All (λ u. u < length (R.rows rows.now)) us.now }
-        ensures { OnOk result ((self.new.levels.items, self.new.next.items) ≡ mark_all level (targets_of (R.rows rows.now) us.now) (self.old.levels.items, self.old.next.items)) }
+        ensures { OnOk result ((self.new.seen.items, self.new.next) ≡ see_all (targets_of (R.rows rows.now) us.now) (self.old.seen.items, self.old.next)) }
     {
         if us.len() < AHEAD {
-            self.expand_each(rows, level, us)
+            self.expand_each(rows, us)
         } else {
-            self.expand_ahead(alloc, rows, level, us)
+            self.expand_ahead(alloc, rows, us)
         }
     }
 
     // One vertex after another.
-    fn expand_each<R: Rows>(&mut self, rows: &R, level: u32, us: &[u32]) -> Result<(), AllocError>
+    fn expand_each<R: Rows>(&mut self, rows: &R, us: &[u32]) -> Result<(), AllocError>
         requires { All (λ u. u < length (R.rows rows.now)) us.now }
-        ensures { OnOk result ((self.new.levels.items, self.new.next.items) ≡ mark_all level (targets_of (R.rows rows.now) us.now) (self.old.levels.items, self.old.next.items)) }
+        ensures { OnOk result ((self.new.seen.items, self.new.next) ≡ see_all (targets_of (R.rows rows.now) us.now) (self.old.seen.items, self.old.next)) }
     {
         for &u in us {
-            self.mark_row(rows, level, u)?;
+            self.mark_row(rows, u)?;
         }
         Ok(())
     }
 
-    // One vertex after another, where the rows lie flat. The rows are there for the contract alone.
+    // Some vertices after others, where the rows lie flat. The rows are there for the contract alone.
     fn expand_flat<R: Rows>(
         &mut self,
+        alloc: Global,
         rows: &R,
         flat: &Flat,
-        level: u32,
         us: &[u32],
     ) -> Result<(), AllocError>
         requires within { All (λ u. u < length (R.rows rows.now)) us.now }
         requires flat { IsFlat (R.rows rows.now) flat.now.starts.items flat.now.targets.items }
-        ensures { OnOk result ((self.new.levels.items, self.new.next.items) ≡ mark_all level (targets_of (R.rows rows.now) us.now) (self.old.levels.items, self.old.next.items)) }
+        ensures { OnOk result ((self.new.seen.items, self.new.next) ≡ see_all (targets_of (R.rows rows.now) us.now) (self.old.seen.items, self.old.next)) }
+    {
+        if us.len() < AHEAD {
+            self.expand_flat_each(rows, flat, us)
+        } else {
+            self.expand_flat_ahead(alloc, rows, flat, us)
+        }
+    }
+
+    // One vertex after another.
+    fn expand_flat_each<R: Rows>(
+        &mut self,
+        rows: &R,
+        flat: &Flat,
+        us: &[u32],
+    ) -> Result<(), AllocError>
+        requires within { All (λ u. u < length (R.rows rows.now)) us.now }
+        requires flat { IsFlat (R.rows rows.now) flat.now.starts.items flat.now.targets.items }
+        ensures { OnOk result ((self.new.seen.items, self.new.next) ≡ see_all (targets_of (R.rows rows.now) us.now) (self.old.seen.items, self.old.next)) }
     {
         for &u in us {
-            self.mark_list(level, flat.row(rows, u))?;
+            self.mark_list(flat.row(rows, u))?;
+        }
+        Ok(())
+    }
+
+    // Some vertices after others, with their rows looked up before.
+    fn expand_flat_ahead<R: Rows>(
+        &mut self,
+        alloc: Global,
+        rows: &R,
+        flat: &Flat,
+        us: &[u32],
+    ) -> Result<(), AllocError>
+        requires within { All (λ u. u < length (R.rows rows.now)) us.now }
+        requires flat { IsFlat (R.rows rows.now) flat.now.starts.items flat.now.targets.items }
+        ensures { OnOk result ((self.new.seen.items, self.new.next) ≡ see_all (targets_of (R.rows rows.now) us.now) (self.old.seen.items, self.old.next)) }
+    {
+        let mut firsts = Vec::with_capacity(alloc, AHEAD)?;
+        let mut start = 0;
+        while start < us.len() {
+            let len = AHEAD.min(us.len() - start);
+            firsts.clear();
+            look_up_flat(rows, flat, &us[start..start + len], &mut firsts)?;
+            self.expand_flat_each(rows, flat, &us[start..start + len])?;
+            start += len;
         }
         Ok(())
     }
@@ -147,11 +189,10 @@ impl Search {
         &mut self,
         alloc: Global,
         rows: &R,
-        level: u32,
         us: &[u32],
     ) -> Result<(), AllocError>
         requires { All (λ u. u < length (R.rows rows.now)) us.now }
-        ensures { OnOk result ((self.new.levels.items, self.new.next.items) ≡ mark_all level (targets_of (R.rows rows.now) us.now) (self.old.levels.items, self.old.next.items)) }
+        ensures { OnOk result ((self.new.seen.items, self.new.next) ≡ see_all (targets_of (R.rows rows.now) us.now) (self.old.seen.items, self.old.next)) }
     {
         let mut firsts = Vec::with_capacity(alloc, AHEAD)?;
         let mut start = 0;
@@ -159,36 +200,34 @@ impl Search {
             let len = AHEAD.min(us.len() - start);
             firsts.clear();
             look_up(rows, &us[start..start + len], &mut firsts)?;
-            self.mark_firsts(rows, level, &firsts)?;
+            self.mark_firsts(rows, &firsts)?;
             start += len;
         }
         Ok(())
     }
 
     // Each of these targets, and those of the row from the place with it on.
-    fn mark_firsts<R: Rows>(
-        &mut self,
-        rows: &R,
-        level: u32,
-        firsts: &[(u32, R::At)],
-    ) -> Result<(), AllocError>
+    fn mark_firsts<R: Rows>(&mut self, rows: &R, firsts: &[(u32, R::At)]) -> Result<(), AllocError>
         requires { All (λ first. R.is_place rows.now first.1) firsts.now }
-        ensures { OnOk result ((self.new.levels.items, self.new.next.items) ≡ mark_all level (flat_map (λ first. first.0 ∷ map (λ p. p.0) (R.suffix rows.now first.1)) firsts.now) (self.old.levels.items, self.old.next.items)) }
+        ensures { OnOk result ((self.new.seen.items, self.new.next) ≡ see_all (flat_map (λ first. first.0 ∷ map (λ p. p.0) (R.suffix rows.now first.1)) firsts.now) (self.old.seen.items, self.old.next)) }
     {
         for &(first, rest) in firsts {
-            self.mark_first(rows, level, first, rest)?;
+            self.mark_first(rows, first, rest)?;
         }
         Ok(())
     }
 
-    // From the frontier to the next one, which has that level.
+    // From the frontier, the vertices that were found last, to the next one, which gets that level. What `frontier` held
+    // before gives room for the next one.
     pub(crate) fn next_level<T: Threads + Sync, R: Rows + Sync, G: Gate + Sync>(
         &mut self,
         rt: &T,
         alloc: Global,
         rows: &R,
-        flat: &Option<Flat>,
+        flat: &mut Option<Flat>,
         level: u32,
+        frontier: &mut Kept,
+        levels: &mut Vec<Option<u32>>,
         workers: u32,
         gate: &G,
     ) -> Result<(), AllocError>
@@ -196,27 +235,58 @@ impl Search {
         R::At: Send,
         requires some { 1 ≤ workers }
         requires few { workers ≤ 16 }
-        requires whole { length self.old.levels.items ≡ length (R.rows rows.now) }
-        requires within { All (λ u. u < length (R.rows rows.now)) self.old.next.items }
-        requires flat { IfSome flat.now (λ f. IsFlat (R.rows rows.now) f.starts.items f.targets.items) }
-        ensures { OnOk result (AreMarked level (targets_of (R.rows rows.now) self.old.next.items) self.old.levels.items self.new.levels.items self.new.next.items) }
+        requires whole { length levels.old.items ≡ length (R.rows rows.now) }
+        requires seen { self.old.seen.items ≡ map is_some levels.old.items }
+        requires within { All (λ u. u < length (R.rows rows.now)) self.old.next }
+        requires edges { edges_in (R.rows rows.now) ≤ 33554432 }
+        requires flat { IfSome flat.old (λ f. IsFlat (R.rows rows.now) f.starts.items f.targets.items) }
+        ensures seen { OnOk result (self.new.seen.items ≡ map is_some levels.new.items) }
+        ensures flat { OnOk result (IfSome flat.new (λ f. IsFlat (R.rows rows.now) f.starts.items f.targets.items)) }
+        ensures levels { OnOk result (AreMarked level (targets_of (R.rows rows.now) self.old.next) levels.old.items levels.new.items self.new.next) }
     {
-        let mut next = replace(&mut self.spare, Vec::new(alloc));
-        next.clear();
-        let frontier = replace(&mut self.next, next);
-        let found = self.from_frontier(rt, alloc, rows, flat, level, &frontier, workers, gate);
-        self.spare = frontier;
-        found
+        // Its value is not used: `count` promises that each target is below the number of vertices, and the proof needs that.
+        let _count = rows.count();
+        if self.next.len() == 1 {
+            return self.next_of_one(rows, level, levels);
+        }
+        lay_flat(alloc, rows, flat, self.next.len())?;
+        swap(frontier, &mut self.next);
+        self.next.clear();
+        self.from_frontier(rt, alloc, rows, flat, frontier.as_slice(), workers, gate)?;
+        give_levels(levels, level, self.next.as_slice());
+        Ok(())
     }
 
-    // Finds the next frontier, where nothing of it was found yet.
+    // The same from a frontier of one vertex, as a path has at each level.
+    #[inline(always)]
+    fn next_of_one<R: Rows>(
+        &mut self,
+        rows: &R,
+        level: u32,
+        levels: &mut Vec<Option<u32>>,
+    ) -> Result<(), AllocError>
+        requires one { length self.old.next ≡ 1 }
+        requires whole { length levels.old.items ≡ length (R.rows rows.now) }
+        requires seen { self.old.seen.items ≡ map is_some levels.old.items }
+        requires within { All (λ u. u < length (R.rows rows.now)) self.old.next }
+        requires targets { AreTargetsBelow (length (R.rows rows.now)) (R.rows rows.now) }
+        ensures seen { OnOk result (self.new.seen.items ≡ map is_some levels.new.items) }
+        ensures levels { OnOk result (AreMarked level (targets_of (R.rows rows.now) self.old.next) levels.old.items levels.new.items self.new.next) }
+    {
+        let u = self.next.as_slice()[0];
+        self.next.clear();
+        self.mark_row(rows, u)?;
+        give_levels(levels, level, self.next.as_slice());
+        Ok(())
+    }
+
+    // Marks the next frontier as found, where nothing of it was found yet.
     fn from_frontier<T: Threads + Sync, R: Rows + Sync, G: Gate + Sync>(
         &mut self,
         rt: &T,
         alloc: Global,
         rows: &R,
         flat: &Option<Flat>,
-        level: u32,
         frontier: &[u32],
         workers: u32,
         gate: &G,
@@ -225,30 +295,26 @@ impl Search {
         R::At: Send,
         requires some { 1 ≤ workers }
         requires few { workers ≤ 16 }
-        requires whole { length self.old.levels.items ≡ length (R.rows rows.now) }
         requires within { All (λ u. u < length (R.rows rows.now)) frontier.now }
         requires flat { IfSome flat.now (λ f. IsFlat (R.rows rows.now) f.starts.items f.targets.items) }
-        requires none { self.old.next.items ≡ [] }
-        ensures { OnOk result (AreMarked level (targets_of (R.rows rows.now) frontier.now) self.old.levels.items self.new.levels.items self.new.next.items) }
+        ensures { OnOk result ((self.new.seen.items, self.new.next) ≡ see_all (targets_of (R.rows rows.now) frontier.now) (self.old.seen.items, self.old.next)) }
     {
-        // Its value is not used: `count` promises that each target is below the number of vertices, and the proof needs that.
-        let _count = rows.count();
-        if let Some(flat) = flat {
-            self.expand_flat(rows, flat, level, frontier)
-        } else if workers == 1 || frontier.len() < FEW || frontier.len() > MANY {
-            self.expand(alloc, rows, level, frontier)
+        if workers > 1 && frontier.len() >= FEW && frontier.len() <= MANY {
+            self.expand_in_pieces(rt, alloc, rows, flat, frontier, workers, gate)
+        } else if let Some(flat) = flat {
+            self.expand_flat(alloc, rows, flat, frontier)
         } else {
-            self.expand_in_pieces(rt, alloc, rows, level, frontier, workers, gate)
+            self.expand(alloc, rows, frontier)
         }
     }
 
-    // The same, in a piece for each worker: the pieces find the targets, and the levels are written after them.
+    // The same, in a piece for each worker: the pieces find the targets, which are marked after them.
     pub(crate) fn expand_in_pieces<T: Threads + Sync, R: Rows + Sync, G: Gate + Sync>(
         &mut self,
         rt: &T,
         alloc: Global,
         rows: &R,
-        level: u32,
+        flat: &Option<Flat>,
         us: &[u32],
         workers: u32,
         gate: &G,
@@ -258,15 +324,36 @@ impl Search {
         requires some { 1 ≤ workers }
         requires few { workers ≤ 16 }
         requires within { All (λ u. u < length (R.rows rows.now)) us.now }
+        requires flat { IfSome flat.now (λ f. IsFlat (R.rows rows.now) f.starts.items f.targets.items) }
         requires room { length us.now < 2 ^ 32 }
-        ensures { OnOk result ((self.new.levels.items, self.new.next.items) ≡ mark_all level (new_targets (R.rows rows.now) self.old.levels.items us.now) (self.old.levels.items, self.old.next.items)) }
+        ensures { OnOk result ((self.new.seen.items, self.new.next) ≡ see_all (targets_of (R.rows rows.now) us.now) (self.old.seen.items, self.old.next)) }
     {
-        let pieces = in_pieces(rt, alloc, rows, &self.levels, us, workers, gate)?;
+        let pieces = in_pieces(rt, alloc, rows, flat, &self.seen, us, workers, gate)?;
         for piece in &pieces {
-            self.mark_list(level, piece)?;
+            self.mark_list(piece.as_slice())?;
         }
         Ok(())
     }
+}
+
+// Lays the rows flat, where they are not so yet and a frontier is so large a part of all vertices that most of them may be
+// expected to follow it.
+#[inline(always)]
+fn lay_flat<R: Rows>(
+    alloc: Global,
+    rows: &R,
+    flat: &mut Option<Flat>,
+    frontier: usize,
+) -> Result<(), AllocError>
+    requires edges { edges_in (R.rows rows.now) ≤ 33554432 }
+    requires flat { IfSome flat.old (λ f. IsFlat (R.rows rows.now) f.starts.items f.targets.items) }
+    ensures { OnOk result (IfSome flat.new (λ f. IsFlat (R.rows rows.now) f.starts.items f.targets.items)) }
+{
+    if frontier < LARGE || flat.is_some() || frontier < rows.count() as usize / PART {
+        return Ok(());
+    }
+    *flat = Some(Flat::of(alloc, rows)?);
+    Ok(())
 }
 
 // Puts the target of the first edge of each of these vertices that has one at the end, with the place behind it.
@@ -285,23 +372,44 @@ fn look_up<R: Rows>(rows: &R, us: &[u32], firsts: &mut Vec<(u32, R::At)>) -> Res
     Ok(())
 }
 
-// The targets of the edges that leave these vertices for which no level was found, a list for each piece of the vertices.
+// Puts the first target of each of these vertices that has one at the end. They are not used: a machine that was asked for
+// them has their rows near when these are gone through.
+fn look_up_flat<R: Rows>(
+    rows: &R,
+    flat: &Flat,
+    us: &[u32],
+    firsts: &mut Vec<u32>,
+) -> Result<(), AllocError>
+    requires within { All (λ u. u < length (R.rows rows.now)) us.now }
+    requires flat { IsFlat (R.rows rows.now) flat.now.starts.items flat.now.targets.items }
+{
+    for &u in us {
+        if let Some(&first) = flat.row(rows, u).first() {
+            firsts.push(first)?;
+        }
+    }
+    Ok(())
+}
+
+// The targets of the edges that leave these vertices that were not found, a list for each piece of the vertices.
 fn in_pieces<T: Threads + Sync, R: Rows + Sync, G: Gate + Sync>(
     rt: &T,
     alloc: Global,
     rows: &R,
-    levels: &[Option<u32>],
+    flat: &Option<Flat>,
+    seen: &[bool],
     us: &[u32],
     workers: u32,
     gate: &G,
-) -> Result<Vec<Vec<u32>>, AllocError>
+) -> Result<Vec<Kept>, AllocError>
 where
     R::At: Send,
     requires some { 1 ≤ workers }
     requires few { workers ≤ 16 }
     requires within { All (λ u. u < length (R.rows rows.now)) us.now }
+    requires flat { IfSome flat.now (λ f. IsFlat (R.rows rows.now) f.starts.items f.targets.items) }
     requires room { length us.now < 2 ^ 32 }
-    ensures { IfOk result (λ v. flat_map (λ piece. piece.items) v.items ≡ new_targets (R.rows rows.now) levels.now us.now) }
+    ensures { IfOk result (λ v. flat_map (λ piece. piece) v.items ≡ new_targets (R.rows rows.now) seen.now us.now) }
 {
     map_pieces(
         rt,
@@ -309,31 +417,78 @@ where
         us.len() as u32,
         workers,
         gate,
-        &|_: u32, start: u32, end: u32| -> Result<Vec<u32>, AllocError>
-            requires { (start ≤ end) × (end ≤ length us.now) × All (λ u. u < length (R.rows rows.now)) us.now }
-            ensures { IfOk result (λ v. v.items ≡ new_targets (R.rows rows.entry.now) levels.entry.now (take (end - start) (drop start us.entry.now))) }
-        { new_targets(alloc, rows, levels, &us[start as usize..end as usize]) },
+        &|_: u32, start: u32, end: u32| -> Result<Kept, AllocError>
+            requires { (start ≤ end) × (end ≤ length us.now) × All (λ u. u < length (R.rows rows.now)) us.now × IfSome flat.now (λ f. IsFlat (R.rows rows.now) f.starts.items f.targets.items) }
+            ensures { IfOk result (λ v. v ≡ new_targets (R.rows rows.entry.now) seen.entry.now (take (end - start) (drop start us.entry.now))) }
+        { new_of_piece(alloc, rows, flat, seen, &us[start as usize..end as usize]) },
     )
 }
 
-// The targets of the edges that leave these vertices for which no level was found.
+// The targets of the edges that leave these vertices that were not found, from the flat rows where they lie so.
+fn new_of_piece<R: Rows>(
+    alloc: Global,
+    rows: &R,
+    flat: &Option<Flat>,
+    seen: &[bool],
+    us: &[u32],
+) -> Result<Kept, AllocError>
+    requires within { All (λ u. u < length (R.rows rows.now)) us.now }
+    requires flat { IfSome flat.now (λ f. IsFlat (R.rows rows.now) f.starts.items f.targets.items) }
+    ensures { IfOk result (λ v. v ≡ new_targets (R.rows rows.now) seen.now us.now) }
+{
+    match flat {
+        Some(flat) => new_flat_targets(alloc, rows, flat, seen, us),
+        None => new_targets(alloc, rows, seen, us),
+    }
+}
+
+// The same, from the flat rows.
+fn new_flat_targets<R: Rows>(
+    alloc: Global,
+    rows: &R,
+    flat: &Flat,
+    seen: &[bool],
+    us: &[u32],
+) -> Result<Kept, AllocError>
+    requires within { All (λ u. u < length (R.rows rows.now)) us.now }
+    requires flat { IsFlat (R.rows rows.now) flat.now.starts.items flat.now.targets.items }
+    ensures { IfOk result (λ v. v ≡ new_targets (R.rows rows.now) seen.now us.now) }
+{
+    let mut found = Kept::new(alloc);
+    for &u in us {
+        push_all_new(seen, flat.row(rows, u), &mut found)?;
+    }
+    Ok(found)
+}
+
+// Puts those of these vertices that were not found at the end.
+fn push_all_new(seen: &[bool], vs: &[u32], found: &mut Kept) -> Result<(), AllocError>
+    ensures { OnOk result (found.new ≡ found.old ++ filter (is_unseen seen.now) vs.now) }
+{
+    for &v in vs {
+        push_if_new(seen, v, found)?;
+    }
+    Ok(())
+}
+
+// The same, from the rows as they stand.
 fn new_targets<R: Rows>(
     alloc: Global,
     rows: &R,
-    levels: &[Option<u32>],
+    seen: &[bool],
     us: &[u32],
-) -> Result<Vec<u32>, AllocError>
+) -> Result<Kept, AllocError>
     requires { All (λ u. u < length (R.rows rows.now)) us.now }
-    ensures { IfOk result (λ v. v.items ≡ new_targets (R.rows rows.now) levels.now us.now) }
+    ensures { IfOk result (λ v. v ≡ new_targets (R.rows rows.now) seen.now us.now) }
 {
-    let mut found = Vec::new(alloc);
+    let mut found = Kept::new(alloc);
     let mut firsts = Vec::with_capacity(alloc, AHEAD)?;
     let mut start = 0;
     while start < us.len() {
         let len = AHEAD.min(us.len() - start);
         firsts.clear();
         look_up(rows, &us[start..start + len], &mut firsts)?;
-        push_firsts(rows, levels, &firsts, &mut found)?;
+        push_firsts(rows, seen, &firsts, &mut found)?;
         start += len;
     }
     Ok(found)
@@ -342,15 +497,15 @@ fn new_targets<R: Rows>(
 // Puts those of these targets, and of the row from the place with each on, at the end.
 fn push_firsts<R: Rows>(
     rows: &R,
-    levels: &[Option<u32>],
+    seen: &[bool],
     firsts: &[(u32, R::At)],
-    found: &mut Vec<u32>,
+    found: &mut Kept,
 ) -> Result<(), AllocError>
     requires { All (λ first. R.is_place rows.now first.1) firsts.now }
-    ensures { OnOk result (found.new.items ≡ found.old.items ++ filter (is_new levels.now) (flat_map (λ first. first.0 ∷ map (λ p. p.0) (R.suffix rows.now first.1)) firsts.now)) }
+    ensures { OnOk result (found.new ≡ found.old ++ filter (is_unseen seen.now) (flat_map (λ first. first.0 ∷ map (λ p. p.0) (R.suffix rows.now first.1)) firsts.now)) }
 {
     for &(first, rest) in firsts {
-        push_first(rows, levels, first, rest, found)?;
+        push_first(rows, seen, first, rest, found)?;
     }
     Ok(())
 }
@@ -359,31 +514,42 @@ fn push_firsts<R: Rows>(
 #[inline(always)]
 fn push_first<R: Rows>(
     rows: &R,
-    levels: &[Option<u32>],
+    seen: &[bool],
     first: u32,
     rest: R::At,
-    found: &mut Vec<u32>,
+    found: &mut Kept,
 ) -> Result<(), AllocError>
     requires { R.is_place rows.now rest }
-    ensures { OnOk result (found.new.items ≡ found.old.items ++ filter (is_new levels.now) (first ∷ map (λ p. p.0) (R.suffix rows.now rest))) }
+    ensures { OnOk result (found.new ≡ found.old ++ filter (is_unseen seen.now) (first ∷ map (λ p. p.0) (R.suffix rows.now rest))) }
 {
-    push_if_new(levels, first, found)?;
+    push_if_new(seen, first, found)?;
     let mut at = rest;
     while let Some((target, _, rest)) = rows.next(at) {
-        push_if_new(levels, target, found)?;
+        push_if_new(seen, target, found)?;
         at = rest;
     }
     Ok(())
 }
 
-// Puts a vertex at the end, where no level was found for it.
+// Puts a vertex at the end, where it was not found.
 #[inline(always)]
-fn push_if_new(levels: &[Option<u32>], v: u32, found: &mut Vec<u32>) -> Result<(), AllocError>
-    ensures { OnOk result (found.new.items ≡ (if is_new levels.now v then found.old.items ++ v ∷ [] else found.old.items)) }
+fn push_if_new(seen: &[bool], v: u32, found: &mut Kept) -> Result<(), AllocError>
+    ensures { OnOk result (found.new ≡ (if is_unseen seen.now v then found.old ++ v ∷ [] else found.old)) }
 {
-    if let Some(Some(_)) = levels.get(v as usize) {
-        return Ok(());
+    let is_seen = match seen.get(v as usize) {
+        Some(&is_seen) => is_seen,
+        None => false,
+    };
+    found.put(v, !is_seen)
+}
+
+// Gives the level to each of these vertices.
+fn give_levels(levels: &mut Vec<Option<u32>>, level: u32, vs: &[u32])
+    ensures { levels.new.items ≡ give level vs.now levels.old.items }
+{
+    for &v in vs {
+        if (v as usize) < levels.len() {
+            levels[v as usize] = Some(level);
+        }
     }
-    found.push(v)?;
-    Ok(())
 }

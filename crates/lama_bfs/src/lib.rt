@@ -4,6 +4,7 @@
 mod breadth_first;
 mod flat;
 mod frontier;
+mod kept;
 
 pub use breadth_first::levels;
 

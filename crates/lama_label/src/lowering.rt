@@ -34,24 +34,29 @@ fn second(labels: &[u32], v: u32) -> u32
     label_of(labels, label_of(labels, v))
 }
 
-// Takes an offer, where it is lower than the label of its vertex.
+// Takes an offer, where it is lower than the label of its vertex. It writes in any case: which offers are lower follows no
+// pattern, so a branch would be foreseen wrong.
 #[inline(always)]
 fn take_one(labels: &mut [u32], v: u32, label: u32)
     ensures { labels.new ≡ seen.take_one (v, label) labels.old }
 {
-    if (v as usize) < labels.len() && label < labels[v as usize] {
-        labels[v as usize] = label;
+    if (v as usize) < labels.len() {
+        labels[v as usize] = label.min(labels[v as usize]);
     }
 }
 
-// Takes the offers of an edge.
+// Takes the offers of an edge. There is nothing to take where both ends have one label that is its own.
 #[inline(always)]
 fn take_edge(labels: &mut [u32], u: u32, v: u32)
     ensures { labels.new ≡ seen.take_edge u v labels.old }
 {
-    let low = second(labels, u).min(second(labels, v));
     let first = label_of(labels, u);
     let other = label_of(labels, v);
+    let second = label_of(labels, first);
+    if first == other && first == second {
+        return;
+    }
+    let low = second.min(label_of(labels, other));
     take_one(labels, u, low);
     take_one(labels, first, low);
     take_one(labels, v, low);

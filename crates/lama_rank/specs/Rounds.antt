@@ -1,6 +1,6 @@
 -- A round of ranks over edges that are given as source and target.
-use Rattle.std.specs.Prelude.{◌≡◌, ℕ, ◌+◌, ◌/◌, ◌<◌, ◌≤◌, ◌==◌, ◌&&◌, nat_le, nat_lt, Bool, true, false, List, All, filter, length, map, sum_by, slice_index, slice_index_or}
-use Rattle.std.specs.List.{range_with_len}
+use Rattle.std.specs.Prelude.{◌≡◌, ℕ, ◌+◌, ◌/◌, ◌<◌, ◌≤◌, ◌==◌, ◌&&◌, nat_le, nat_lt, ◌-◌, ◌++◌, Bool, true, false, List, [], All, filter, length, map, sum_by, slice_index, slice_index_or}
+use Rattle.std.specs.List.{flat_map, range_with_len}
 use Rattle.lama_model.specs.Row.{edges_from}
 use Rattle.lama_work.specs.Pieces.{piece_start}
 use Rattle.lama_model.specs.Ranks.{rank_of_sum}
@@ -39,3 +39,27 @@ pub record AreInPiece (count start end : ℕ) (shares : List ℕ) (edges : List 
 abbrev pub AreByTarget : List (List (ℕ × ℕ)) → List (List (ℕ × ℕ)) → Type 0
 AreByTarget rows lists = (i : ℕ) (d : List (ℕ × ℕ)) → i < length lists →
     slice_index_or lists i d ≡ edges_to (piece_start (length rows) (length lists) i) (piece_start (length rows) (length lists) (i + 1)) (all_edges rows)
+
+-- each of so many lists has those of the edges that lead to its block of n vertices
+abbrev pub AreOfBlocks : ℕ → ℕ → List (ℕ × ℕ) → List (List (ℕ × ℕ)) → Type 0
+AreOfBlocks n blocks edges lists = (k : ℕ) (d : List (ℕ × ℕ)) → k < blocks → slice_index_or lists k d ≡ edges_to (piece_start n blocks k) (piece_start n blocks (k + 1)) edges
+
+-- each list, of one block of n vertices, has got those of the edges that lead to its block
+pub record HaveGot (n : ℕ) (edges : List (ℕ × ℕ)) (before after : List (List (ℕ × ℕ))) : Type 0 where
+  pub len : length after ≡ length before
+  pub each : (k : ℕ) (d : List (ℕ × ℕ)) → k < length before
+      → slice_index_or after k d ≡ slice_index_or before k d ++ edges_to (piece_start n (length before) k) (piece_start n (length before) (k + 1)) edges
+
+-- the edges to block k, of parts that have a list for each block
+abbrev pub edges_of_block : List (List (List (ℕ × ℕ))) → ℕ → List (ℕ × ℕ)
+edges_of_block parts k = flat_map (λ part. slice_index_or part k []) parts
+
+-- those of so many blocks, one after another
+abbrev pub blocks_of : ℕ → List (List (List (ℕ × ℕ))) → List (List (ℕ × ℕ))
+blocks_of blocks parts = map (edges_of_block parts) (range_with_len 0 blocks)
+
+-- what a round leaves of the vertices of block k, where each block has its list of edges
+abbrev pub after_block : Bool → List ℕ → List ℕ → List (List (ℕ × ℕ)) → ℕ → List ℕ
+after_block last degrees shares lists k =
+    after_round last degrees shares (slice_index_or lists k [])
+    (range_with_len (piece_start (length degrees) (length lists) k) (piece_start (length degrees) (length lists) (k + 1) - piece_start (length degrees) (length lists) k))

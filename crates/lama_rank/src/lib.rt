@@ -1,6 +1,7 @@
 //! PageRank in whole numbers, and how many edges leave the vertices of a graph.
 #![tactic(auto)]
 
+mod blocks;
 mod degree_totals;
 mod page_rank;
 mod round;

@@ -1,5 +1,5 @@
 -- The pieces of the numbers below a bound, and what calls on them give.
-use Rattle.std.specs.Prelude.{ℕ, ◌+◌, ◌*◌, ◌/◌, ◌<◌, List, Result, Ok, slice_index_or}
+use Rattle.std.specs.Prelude.{ℕ, ◌≡◌, ◌+◌, ◌*◌, ◌/◌, ◌<◌, length, List, Result, Ok, slice_index_or}
 use denote.Param.Members.{Shared}
 use Rattle.std.specs.Fn.{FnReturns}
 
@@ -19,3 +19,8 @@ module _ {F T E : Type 0} (g : Shared F (ℕ × (ℕ × (ℕ × Unit {0}))) (Res
   -- each element of rs is what a call of f may give with the piece of its place
   abbrev pub AreOfPieces : ℕ → ℕ → List (Result T E) → Type 0
   AreOfPieces n workers rs = (i : ℕ) (d : Result T E) → i < workers → GivesPiece n workers i (slice_index_or rs i d)
+
+  -- rs has what a call of f may give with each piece from one on
+  pub record AreFrom (n workers from : ℕ) (rs : List (Result T E)) : Type 0 where
+    pub len : from + length rs ≡ workers
+    pub each : (k : ℕ) (d : Result T E) → k < length rs → GivesPiece n workers (from + k) (slice_index_or rs k d)

@@ -1,9 +1,10 @@
+ghost use denote.Param.Send.{IsSync, IsSend};
 ghost use Rattle.std.specs.Prelude.{◌≡◌, ℕ, ◌+◌, ◌*◌, ◌/◌, ◌<◌, ◌≤◌, IfOk, Ok, length, map};
-ghost use Rattle.lama_work.specs.Pieces.{piece_start, AreOfPieces, GivesPiece, GivesPieces};
+ghost use Rattle.lama_work.specs.Pieces.{piece_start, AreFrom, AreOfPieces, GivesPiece, GivesPieces};
 
 use lama_base::{Gate, PIECE_BEGINS};
 use std::alloc::{AllocError, Global};
-use std::thread::{Threads, map_indices};
+use std::thread::{Threads, join};
 
 /// Piece `i` of the numbers below `n`, cut for so many workers: where it begins, and where it ends, which is no longer in
 /// it. The pieces lie one after another, and none is more than one longer than another. It takes no memory.
@@ -53,20 +54,61 @@ fn answers_of<
     gate: &G,
     f: &F,
 ) -> Result<Vec<Result<T, AllocError>>, AllocError>
+    requires some { 1 ≤ workers }
     requires few { workers ≤ 16 }
     requires accepts { (i : ℕ) → i < workers → F.pre f.now i (piece_start n workers i) (piece_start n workers (i + 1)) }
     ensures len { IfOk result (λ v. length v.items ≡ workers) }
     ensures each { IfOk result (λ v. AreOfPieces F.Fn f.now n workers v.items) }
 {
-    map_indices(
-        rt,
-        alloc,
-        workers as usize,
-        &|i: usize| -> Result<T, AllocError>
-            requires { (workers ≤ 16) × (i < workers) × F.pre f.now i (piece_start n workers i) (piece_start n workers (i + 1)) }
-            ensures { GivesPiece F.Fn f.entry.now n workers i result }
-        { on_piece(n, workers, i as u32, gate, f) },
-    )
+    if workers == 1 {
+        let mut only = Vec::new(alloc);
+        only.push(on_piece(n, workers, 0, gate, f))?;
+        return Ok(only);
+    }
+    answers_from(rt, alloc, n, workers, 0, gate, f)
+}
+
+// The same for the pieces from one on, each in a thread of its own where one can be made.
+//
+// The caller starts the thread of each piece itself and then waits. Where threads start threads, and work themselves, some
+// systems leave the new one to wait for the processor of the one that started it.
+#[cycle(starts)]
+fn answers_from<
+    R: Threads + Sync,
+    T: Send + Drop,
+    F: Fn(u32, u32, u32) -> Result<T, AllocError> + Sync,
+    G: Gate + Sync,
+>(
+    rt: &R,
+    alloc: Global,
+    n: u32,
+    workers: u32,
+    from: u32,
+    gate: &G,
+    f: &F,
+) -> Result<Vec<Result<T, AllocError>>, AllocError>
+    requires few { workers ≤ 16 }
+    requires from { from ≤ workers }
+    requires accepts { (i : ℕ) → i < workers → F.pre f.now i (piece_start n workers i) (piece_start n workers (i + 1)) }
+    ensures { IfOk result (λ v. AreFrom F.Fn f.now n workers from v.items) }
+{
+    if from == workers {
+        return Ok(Vec::new(alloc));
+    }
+    let piece = || -> Result<T, AllocError>
+        requires { IsSync F.row × IsSync G.row × IsSend T.row × (workers ≤ 16) × (from < workers) × F.pre f.now from (piece_start n workers from) (piece_start n workers (from + 1)) }
+        ensures { GivesPiece F.Fn f.entry.now n workers from result }
+    { on_piece(n, workers, from, gate, f) };
+    let others = || -> Result<Vec<Result<T, AllocError>>, AllocError>
+        requires { IsSync R.row × IsSync F.row × IsSync G.row × IsSend T.row × (workers ≤ 16) × (from < workers) × ((i : ℕ) → i < workers → F.pre f.now i (piece_start n workers i) (piece_start n workers (i + 1))) }
+        ensures { IfOk result (λ v. AreFrom F.Fn f.entry.now n workers (from + 1) v.items) }
+    { answers_from(rt, alloc, n, workers, from + 1, gate, f) };
+    let (answer, rest) = join(rt, piece, others);
+    let mut rest = rest?;
+    let mut answers = Vec::new(alloc);
+    answers.push(answer)?;
+    answers.append(&mut rest)?;
+    Ok(answers)
 }
 
 // What the answers hold, or the first error among them.

@@ -2,18 +2,18 @@ use Rattle.std.proofs.Common.{◌≡◌, ◌∙◌, ◌+◌, ◌-◌, ◌∷◌,
 use Rattle.std.specs.Prelude.{filter}
 use Rattle.std.specs.List.{flat_map}
 use Rattle.std.proofs.lemmas.List.{drop-drop, take-append-drop}
-use Rattle.lama_bfs.specs.Frontier.{is_new, targets_of, new_targets}
+use Rattle.lama_bfs.specs.Frontier.{is_unseen, targets_of, new_targets}
 use Rattle.lama_bfs.proofs.Marks.{new-joins}
 use Rattle.lama_bfs.proofs.frontier.new_targets.Goals as goal
 
 pub loop-start-preserved : goal.loop-start-preserved
 loop-start-preserved g c =
     let rows = g.R.Rows.rows c.args.rows.now in
-    let levels = c.args.levels.now in
+    let levels = c.args.seen.now in
     let us = c.args.us.now in
     let i = c.loop-start.start in
     let n = c.min-len.result in
-    let before = c.loop-start.found.items in
+    let before = c.loop-start.found in
     let some = c.loop-start-test.true in
     let len = c.min-len.ensures in
     let part = take (i + n - i) (drop i us) in
@@ -25,7 +25,7 @@ loop-start-preserved g c =
     record {
       within = omega (arith, some, len);
       left =
-          ap (λ l. l ++ new_targets rows levels rest) (c.in_ok-push_firsts.ensures ∙ ap (λ ts. before ++ filter (is_new levels) ts) found)
+          ap (λ l. l ++ new_targets rows levels rest) (c.in_ok-push_firsts.ensures ∙ ap (λ ts. before ++ filter (is_unseen levels) ts) found)
           ∙ (append_assoc before (new_targets rows levels part) (new_targets rows levels rest)
           ∙ (sym (ap (λ l. before ++ l) (ap (new_targets rows levels) cut ∙ new-joins rows levels part rest))
           ∙ c.loop-start.invariant.left));

@@ -5,7 +5,7 @@ use Rattle.lama_bfs.proofs.frontier.new_targets.Given as goal
 abbrev pub invariant-loop-start : goal.invariant-loop-start
 invariant-loop-start g l = record {
   within : l.start ≤ length l.us;
-  left : l.found.items ++ new_targets (g.R.Rows.rows l.rows) l.levels (drop l.start l.us) ≡ new_targets (g.R.Rows.rows l.rows) l.levels l.us;
+  left : l.found ++ new_targets (g.R.Rows.rows l.rows) l.seen (drop l.start l.us) ≡ new_targets (g.R.Rows.rows l.rows) l.seen l.us;
 }
 
 abbrev pub decreases-loop-start : goal.decreases-loop-start

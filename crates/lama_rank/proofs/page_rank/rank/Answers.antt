@@ -3,7 +3,7 @@ use Rattle.std.proofs.lemmas.Result.{IfOk-weaker}
 use Rattle.std.specs.List.{range_with_len}
 use Rattle.lama_model.specs.Row.{graph_of_rows, AreTargetsBelow}
 use Rattle.lama_model.specs.Ranks.{ranks}
-use Rattle.lama_rank.specs.Rounds.{handed, share, all_edges, after_round}
+use Rattle.lama_rank.specs.Rounds.{handed, share, all_edges, after_round, blocks_of, AreByTarget}
 use Rattle.lama_rank.proofs.Recursion.{shares_at, degrees-are, first-shares, shares-count, handed-few, next-shares, last-ranks, all-first}
 use Rattle.lama_rank.proofs.page_rank.rank.Goals as goal
 
@@ -25,6 +25,10 @@ loop-left-init g c =
           ∙ (ap (map (λ d. share d 1000000)) (c.deref.ensures.value ∙ (c.in_ok-degrees.ensures ∙ degrees-are rows))
           ∙ (first-shares rows ∙ ap (shares_at rows) none));
     }
+
+pub round-requires-clause-lists : goal.round-requires-clause-lists
+round-requires-clause-lists g c = λ lives outlive.
+    subst (λ ps. AreByTarget (g.R.Rows.rows c.args.rows.now) (blocks_of c.if-count-lt-FEW.blocks (map (λ part. map (λ list. list.items) part.items) ps))) (sym c.deref-in-loop-left.ensures.value) c.in_ok-parts.ensures.edges
 
 pub round-requires-clause-shares : goal.round-requires-clause-shares
 round-requires-clause-shares g c = λ lives outlive.
@@ -57,6 +61,10 @@ loop-left-preserved g c =
           ∙ ((λ j. after_round false (degrees j) (shares j) (all_edges rows) (range_with_len 0 (length rows)))
           ∙ (next-shares rows below i ∙ ap (shares_at rows) next));
     }
+
+pub round-requires-2-clause-lists : goal.round-requires-2-clause-lists
+round-requires-2-clause-lists g c = λ lives outlive.
+    subst (λ ps. AreByTarget (g.R.Rows.rows c.args.rows.now) (blocks_of c.if-count-lt-FEW.blocks (map (λ part. map (λ list. list.items) part.items) ps))) (sym c.deref-2.ensures.value) c.in_ok-parts.ensures.edges
 
 pub round-requires-2-clause-shares : goal.round-requires-2-clause-shares
 round-requires-2-clause-shares g c = λ lives outlive.

@@ -3,4 +3,4 @@ use Rattle.std.specs.List.{flat_map}
 use Rattle.lama_rank.proofs.round.joined.Given as goal
 
 abbrev pub invariant-loop-piece : goal.invariant-loop-piece
-invariant-loop-piece l = l.all.items ++ flat_map (λ piece. piece.items) (drop l.piece-index l.pieces) ≡ flat_map (λ piece. piece.items) l.pieces
+invariant-loop-piece l = l.all.items ++ flat_map (λ piece. flat_map (λ block. block.items) piece.items) (drop l.piece-index l.pieces) ≡ flat_map (λ piece. flat_map (λ block. block.items) piece.items) l.pieces

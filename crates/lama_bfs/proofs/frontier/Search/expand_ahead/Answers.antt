@@ -1,18 +1,18 @@
 use Rattle.std.proofs.Common.{◌≡◌, ◌∙◌, ◌+◌, ◌-◌, ◌∷◌, ◌++◌, ap, arith, drop, map, sym, take}
 use Rattle.std.specs.List.{flat_map}
 use Rattle.std.proofs.lemmas.List.{drop-drop, take-append-drop}
-use Rattle.lama_bfs.specs.Frontier.{targets_of, mark_all}
-use Rattle.lama_bfs.proofs.Marks.{State, all-append, targets-join}
+use Rattle.lama_bfs.specs.Frontier.{targets_of, see_all}
+use Rattle.lama_bfs.proofs.Marks.{targets-join}
+use Rattle.lama_bfs.proofs.Seen.{Seen, see-append}
 use Rattle.lama_bfs.proofs.frontier.Search.expand_ahead.Goals as goal
 
 pub loop-start-preserved : goal.loop-start-preserved
 loop-start-preserved g c =
     let rows = g.R.Rows.rows c.args.rows.now in
-    let level = c.args.level in
     let us = c.args.us.now in
     let i = c.loop-start.start in
     let n = c.min-len.result in
-    let s : State = (c.loop-start.self.levels.items, c.loop-start.self.next.items) in
+    let s : Seen = (c.loop-start.self.seen.items, c.loop-start.self.next) in
     let some = c.loop-start-test.true in
     let len = c.min-len.ensures in
     let part = take (i + n - i) (drop i us) in
@@ -24,8 +24,8 @@ loop-start-preserved g c =
     record {
       within = omega (arith, some, len);
       left =
-          ap (mark_all level (targets_of rows rest)) (c.in_ok-mark_firsts.ensures ∙ ap (λ ts. mark_all level ts s) found)
-          ∙ (sym (all-append level (targets_of rows part) (targets_of rows rest) s)
-          ∙ (sym (ap (λ l. mark_all level l s) (ap (targets_of rows) cut ∙ targets-join rows part rest))
+          ap (see_all (targets_of rows rest)) (c.in_ok-mark_firsts.ensures ∙ ap (λ ts. see_all ts s) found)
+          ∙ (sym (see-append (targets_of rows part) (targets_of rows rest) s)
+          ∙ (sym (ap (λ l. see_all l s) (ap (targets_of rows) cut ∙ targets-join rows part rest))
           ∙ c.loop-start.invariant.left));
     }

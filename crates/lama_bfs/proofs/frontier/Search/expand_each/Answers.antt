@@ -1,8 +1,8 @@
 use Rattle.std.proofs.Common.{◌∙◌, ◌+◌, ap, drop, get_or, map, sym}
 use Rattle.std.proofs.lemmas.List.{drop_more}
 use Rattle.lama_model.specs.Row.{row_at}
-use Rattle.lama_bfs.specs.Frontier.{targets_of, mark_all}
-use Rattle.lama_bfs.proofs.Marks.{State, all-append}
+use Rattle.lama_bfs.specs.Frontier.{targets_of, see_all}
+use Rattle.lama_bfs.proofs.Seen.{Seen, see-append}
 use Rattle.lama_bfs.proofs.frontier.Search.expand_each.Goals as goal
 
 pub loop-u-preserved : goal.loop-u-preserved
@@ -11,8 +11,8 @@ loop-u-preserved g c =
     let us = c.args.us.now in
     let i = c.loop-u.u-index in
     let u = get_or us i 0 in
-    let s : State = (c.loop-u.self.levels.items, c.loop-u.self.next.items) in
-    ap (mark_all c.args.level (targets_of rows (drop (i + 1) us))) c.in_ok-mark_row.ensures
-    ∙ (sym (all-append c.args.level (map (λ p. p.0) (row_at rows u)) (targets_of rows (drop (i + 1) us)) s)
-    ∙ (sym (ap (λ l. mark_all c.args.level (targets_of rows l) s) (drop_more us i 0 c.loop-u-test.true))
+    let s : Seen = (c.loop-u.self.seen.items, c.loop-u.self.next) in
+    ap (see_all (targets_of rows (drop (i + 1) us))) c.in_ok-mark_row.ensures
+    ∙ (sym (see-append (map (λ p. p.0) (row_at rows u)) (targets_of rows (drop (i + 1) us)) s)
+    ∙ (sym (ap (λ l. see_all (targets_of rows l) s) (drop_more us i 0 c.loop-u-test.true))
     ∙ c.loop-u.invariant))
