@@ -1,6 +1,6 @@
 -- What stands between two levels, in a graph that has these rows.
-use Rattle.std.proofs.Common.{◌≡◌, ◌≢◌, ◌∙◌, ℕ, zero, suc, ◌+◌, ◌<◌, ◌≤◌, ◌⊎◌, inl, inr, List, [], ◌∷◌, length, get_or, set, map, replicate, cond, Bool, true, false, Option, None, Some, refl, sym, ap, subst, arith, true≢false}
-use Rattle.std.specs.Prelude.{◌==◌, ◌&&◌, ◌||◌, All, is_none, slice_index_or}
+use Rattle.std.proofs.Common.{◌≡◌, ◌≢◌, ◌∙◌, ℕ, zero, suc, ◌+◌, ◌<◌, ◌≤◌, ◌⊎◌, inl, inr, List, [], ◌∷◌, ◌++◌, length, get_or, slice_index, set, map, replicate, cond, Bool, true, false, Option, None, Some, refl, sym, ap, subst, arith, true≢false}
+use Rattle.std.specs.Prelude.{◌==◌, ◌&&◌, ◌||◌, All, is_none, nat_lt, slice_index_or}
 use Rattle.std.specs.List.{list_any, flat_map}
 use Rattle.std.proofs.lemmas.Bool.{cases_eq, cases_lt}
 use Rattle.std.proofs.lemmas.Bool.Decides.{nat_tests}
@@ -12,8 +12,8 @@ use Rattle.lama_model.specs.Graph.{Graph}
 use Rattle.lama_model.specs.Row.{row_at, graph_of_rows, AreTargetsBelow}
 use Rattle.lama_model.proofs.RowsOfGraph.{row-of-rows}
 use Rattle.lama_model.proofs.Leading.{leads-graph}
-use Rattle.lama_model.specs.Levels.{is_among, leads, is_reached, level, levels}
-use Rattle.lama_bfs.specs.Frontier.{is_new, targets_of, AreMarked}
+use Rattle.lama_model.specs.Levels.{first_from, is_among, leads, is_reached, level, levels}
+use Rattle.lama_bfs.specs.Frontier.{is_new, targets_of, AreMarked, IsRound}
 use Rattle.lama_bfs.proofs.Marks.{State, mark_all, marked-none, marked-all}
 use Rattle.std.proofs.lemmas.List.Elements.{All-head, All-tail, All-append}
 use Rattle.lama_model.proofs.LevelLaw.{any-found, or-left, reached-step, last-edge, IsFirst, first-is, LeavesVertices, Least, on-way, least-one, least-below}
@@ -92,6 +92,25 @@ module _ (rows : List (List (ℕ × ℕ))) (s : ℕ) where
     pub front_has : (v : ℕ) → v < length rows → is_among v front ≡ true → slice_index_or found v None ≡ Some n
     pub has_front : (v : ℕ) → v < length rows → slice_index_or found v None ≡ Some n → is_among v front ≡ true
     pub below : All (λ v. v < length rows) front
+
+  -- the same, as contracts say it
+  pub round-of : (n : ℕ) (found : List (Option ℕ)) (front : List ℕ) → IsRound rows s n found front → Round n found front
+  round-of n found front h = record {
+    size = h.size;
+    found_is = λ v lv. subst (IsFirst (reached v) 0 (n + 1)) (sym (h.found_are v lv)) (first-is (reached v) 0 (n + 1));
+    front_has = h.front_has;
+    has_front = h.has_front;
+    below = h.below;
+  }
+
+  pub of-round : (n : ℕ) (found : List (Option ℕ)) (front : List ℕ) → Round n found front → IsRound rows s n found front
+  of-round n found front r = record {
+    size = r.size;
+    found_are = λ v lv. first-unique (reached v) 0 (n + 1) (slice_index_or found v None) (first_from (reached v) 0 (n + 1)) (r.found_is v lv) (first-is (reached v) 0 (n + 1));
+    front_has = r.front_has;
+    has_front = r.has_front;
+    below = r.below;
+  }
 
   module _ (n : ℕ) (found : List (Option ℕ)) (front : List ℕ) (r : Round n found front) where
     -- a vertex of the frontier has level n
@@ -210,6 +229,18 @@ module _ (rows : List (List (ℕ × ℕ))) (s : ℕ) where
       single zero d lk = lt
       single (suc k) d lk = absurd (omega (arith, lk))
 
+  -- from a frontier of one vertex, whose only edge leads to one that has no level, to that one
+  pub next-of-one : (n : ℕ) (found : List (Option ℕ)) (u v : ℕ) → Round n found (u ∷ []) → AreTargetsBelow (length rows) rows → map (λ p. p.0) (row_at rows u) ≡ v ∷ []
+      → v < length found → is_new found v ≡ true → Round (n + 1) (set found v (Some (n + 1))) (v ∷ [])
+  next-of-one n found u v r targets only lt new =
+      next-round n found (u ∷ []) r (set found v (Some (n + 1))) (v ∷ []) (from-all (n + 1) rows (u ∷ []) found (set found v (Some (n + 1))) (v ∷ []) targets r.size is)
+    where
+      here : nat_lt v (length found) && is_new found v ≡ true
+      here = let l : nat_lt v (length found) ≡ true = grind (arith, nat_tests, lt) in λ j. l j && new j
+
+      is : (set found v (Some (n + 1)), v ∷ []) ≡ mark_all (n + 1) (targets_of rows (u ∷ [])) (found, [])
+      is = sym (ap (λ vs. mark_all (n + 1) (vs ++ []) (found, [])) only ∙ ap (λ (b : Bool). cond {A = State} b (set found v (Some (n + 1)), v ∷ []) (found, [])) here)
+
   -- a frontier has a level below the number of vertices
   pub level-below : (n : ℕ) (found : List (Option ℕ)) (front : List ℕ) → Round n found front → 0 < length front → n < length rows
   level-below n found [] r some = absurd (omega (arith, some))
@@ -251,6 +282,11 @@ module _ (rows : List (List (ℕ × ℕ))) (s : ℕ) where
       same v lt (Some k) (Some k') h h' =
           let one = least-one g s small k k' v (record { reached = h.passes; none = λ j l. h.first j (omega arith) l }) (record { reached = h'.passes; none = λ j l. h'.first j (omega arith) l }) in
           ap (λ k. Some k) one
+
+pub one-is : (vs : List ℕ) → length vs ≡ 1 → vs ≡ slice_index vs 0 ∷ []
+one-is [] e = absurd (omega (arith, e))
+one-is (u ∷ []) e = refl
+one-is (u ∷ w ∷ vs) e = absurd (omega (arith, e))
 
 pub empty-is : (vs : List ℕ) → length vs ≡ 0 → vs ≡ []
 empty-is [] e = refl

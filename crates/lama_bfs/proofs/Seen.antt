@@ -1,11 +1,10 @@
 -- Vertices that are seen, and the levels that they get.
-use Rattle.std.proofs.Common.{slice_index, ◌≡◌, ◌≢◌, ◌∙◌, ◌⊎◌, inl, inr, ℕ, zero, suc, ◌<◌, List, [], ◌∷◌, ◌++◌, length, set, map, replicate, cond, Bool, true, false, Option, None, Some, refl, sym, ap, arith}
+use Rattle.std.proofs.Common.{◌≡◌, ◌≢◌, ◌∙◌, ◌⊎◌, inl, inr, ℕ, zero, suc, ◌<◌, List, [], ◌∷◌, ◌++◌, length, set, map, replicate, cond, Bool, true, false, Option, None, Some, refl, sym, ap, arith}
 use Rattle.std.specs.Prelude.{◌&&◌, filter, is_none, is_some, not, nat_lt}
 use Rattle.std.proofs.lemmas.Bool.{cases_eq}
 use Rattle.std.proofs.lemmas.Bool.Decides.{nat_tests}
-use Rattle.std.proofs.lemmas.List.{append-nil, length-map, map-set, get_or-set_same, get_or-set_other}
-use Rattle.lama_model.specs.Row.{row_at}
-use Rattle.lama_bfs.specs.Frontier.{targets_of, is_new, is_unseen, see_one, see_all, give}
+use Rattle.std.proofs.lemmas.List.{length-map, map-set, get_or-set_same, get_or-set_other}
+use Rattle.lama_bfs.specs.Frontier.{is_new, is_unseen, see_one, see_all, give}
 use Rattle.lama_bfs.proofs.Marks.{State, mark_one, mark_all}
 
 abbrev pub Seen : Type 0
@@ -24,7 +23,7 @@ not-some None = refl
 not-some (Some l) = refl
 
 -- a vertex that has no level was not seen
-unseen-new : (levels : List (Option ℕ)) (v : ℕ) → is_unseen (found levels) v ≡ is_new levels v
+pub unseen-new : (levels : List (Option ℕ)) (v : ℕ) → is_unseen (found levels) v ≡ is_new levels v
 unseen-new [] v = refl
 unseen-new (o ∷ levels) zero = not-some o
 unseen-new (o ∷ levels) (suc v) = unseen-new levels v
@@ -116,6 +115,10 @@ skip-seen seen (v ∷ vs) s h = by (is_unseen seen v) refl (skip-seen seen vs)
         let same : see_one v s ≡ s = ap (λ (b : Bool). cond {A = Seen} (nat_lt v (length s.0) && b) (set s.0 v true, s.1 ++ v ∷ []) s) (h v e) ∙ none (nat_lt v (length s.0)) in
         rest s h ∙ ap (see_all vs) (sym same)
 
+-- a vertex that gets a level is seen
+pub seen-one : (levels : List (Option ℕ)) (seen : List Bool) (v l : ℕ) → seen ≡ found levels → set seen v true ≡ found (set levels v (Some l))
+seen-one levels seen v l is = ap (λ s. set s v true) is ∙ sym (map-set is_some levels v (Some l))
+
 pub skip-new : (seen : List Bool) (vs next : List ℕ) → see_all (filter (is_unseen seen) vs) (seen, next) ≡ see_all vs (seen, next)
 skip-new seen vs next = skip-seen seen vs (seen, next) (λ v e. e)
 
@@ -127,9 +130,3 @@ seen-first n s seen levels is none =
     none-found : (n : ℕ) → found (replicate n None) ≡ replicate n false
     none-found zero = refl
     none-found (suc n) = ap (λ l. false ∷ l) (none-found n)
-
--- the targets of one vertex alone
-pub targets-of-one : (rows : List (List (ℕ × ℕ))) (us : List ℕ) → length us ≡ 1 → targets_of rows us ≡ map (λ p. p.0) (row_at rows (slice_index us 0))
-targets-of-one rows [] e = absurd (omega (arith, e))
-targets-of-one rows (u ∷ []) e = append-nil (map (λ p. p.0) (row_at rows u))
-targets-of-one rows (u ∷ w ∷ us) e = absurd (omega (arith, e))

@@ -1,8 +1,8 @@
 -- Vertices that are found one level after another.
-use Rattle.std.specs.Prelude.{◌≡◌, ℕ, ◌<◌, ◌&&◌, nat_lt, not, Bool, true, false, List, [], ◌∷◌, ◌++◌, All, filter, map, length, Option, None, Some, is_none, if◌then◌else◌, slice_index_or, slice_set}
+use Rattle.std.specs.Prelude.{◌≡◌, ℕ, ◌+◌, ◌<◌, ◌&&◌, nat_lt, not, Bool, true, false, List, [], ◌∷◌, ◌++◌, All, filter, map, length, Option, None, Some, is_none, if◌then◌else◌, slice_index_or, slice_set}
 use Rattle.std.specs.List.{flat_map}
-use Rattle.lama_model.specs.Row.{row_at}
-use Rattle.lama_model.specs.Levels.{is_among}
+use Rattle.lama_model.specs.Row.{row_at, graph_of_rows}
+use Rattle.lama_model.specs.Levels.{first_from, is_among, is_reached}
 
 -- no level was found for the vertex
 abbrev pub is_new : List (Option ℕ) → ℕ → Bool
@@ -40,3 +40,11 @@ pub record AreMarked (level : ℕ) (vs : List ℕ) (before after : List (Option 
   pub each : (v : ℕ) → v < length before → slice_index_or after v None ≡ (if is_new before v && is_among v vs then Some level else slice_index_or before v None)
   pub next_are : (v : ℕ) → v < length before → is_among v next ≡ (is_new before v && is_among v vs)
   pub below : All (λ v. v < length before) next
+
+-- the levels up to n are found and no others, and front are the vertices of level n
+pub record IsRound (rows : List (List (ℕ × ℕ))) (s n : ℕ) (found : List (Option ℕ)) (front : List ℕ) : Type 0 where
+  pub size : length found ≡ length rows
+  pub found_are : (v : ℕ) → v < length rows → slice_index_or found v None ≡ first_from (λ m. is_reached (graph_of_rows rows).edges s m v) 0 (n + 1)
+  pub front_has : (v : ℕ) → v < length rows → is_among v front ≡ true → slice_index_or found v None ≡ Some n
+  pub has_front : (v : ℕ) → v < length rows → slice_index_or found v None ≡ Some n → is_among v front ≡ true
+  pub below : All (λ v. v < length rows) front

@@ -20,7 +20,8 @@ use std::thread::Threads;
 /// so the time is by the vertices of the graph and the edges that are reached. A large frontier is cut into a piece for
 /// each worker, and a piece reaches the gate before its work; a small one, and every one where there is one worker, is
 /// expanded by the caller. Where a frontier is a large part of the graph, the targets of all rows are first put into one
-/// array, which costs all vertices and edges once, and four bytes for each. The only error is want of memory.
+/// array, in a piece for each worker too, which costs all vertices and edges once, and four bytes for each. The only error
+/// is want of memory.
 pub fn levels<T: Threads + Sync, R: Rows + Sync, G: Gate + Sync>(
     rt: &T,
     alloc: Global,
@@ -50,7 +51,7 @@ where
     let mut flat = None;
     let mut level = 0;
     while search.next.len() > 0 {
-        level += 1;
+        level = search.follow(rows, source, level, &mut levels)? + 1;
         search.next_level(
             rt,
             alloc,

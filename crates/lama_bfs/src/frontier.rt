@@ -1,6 +1,6 @@
 // From one level to the next.
 ghost use Rattle.std.specs.Prelude.{◌≡◌, ◌-◌, ◌<◌, ◌≤◌, ◌^◌, ◌++◌, [], ◌∷◌, All, IfOk, IfSome, OnOk, drop, filter, flat_map, length, map, take, if◌then◌else◌, is_some};
-ghost use Rattle.lama_model.specs.Row.{edges_in, row_at, AreTargetsBelow};
+ghost use Rattle.lama_model.specs.Row.{edges_in, row_at};
 ghost use Rattle.lama_bfs.specs.Frontier.{is_unseen, targets_of, new_targets, see_one, see_all, give, AreMarked};
 ghost use Rattle.lama_bfs.specs.Flat.{IsFlat};
 
@@ -246,36 +246,10 @@ impl Search {
     {
         // Its value is not used: `count` promises that each target is below the number of vertices, and the proof needs that.
         let _count = rows.count();
-        if self.next.len() == 1 {
-            return self.next_of_one(rows, level, levels);
-        }
-        lay_flat(alloc, rows, flat, self.next.len())?;
+        lay_flat(rt, alloc, rows, flat, self.next.len(), workers, gate)?;
         swap(frontier, &mut self.next);
         self.next.clear();
         self.from_frontier(rt, alloc, rows, flat, frontier.as_slice(), workers, gate)?;
-        give_levels(levels, level, self.next.as_slice());
-        Ok(())
-    }
-
-    // The same from a frontier of one vertex, as a path has at each level.
-    #[inline(always)]
-    fn next_of_one<R: Rows>(
-        &mut self,
-        rows: &R,
-        level: u32,
-        levels: &mut Vec<Option<u32>>,
-    ) -> Result<(), AllocError>
-        requires one { length self.old.next ≡ 1 }
-        requires whole { length levels.old.items ≡ length (R.rows rows.now) }
-        requires seen { self.old.seen.items ≡ map is_some levels.old.items }
-        requires within { All (λ u. u < length (R.rows rows.now)) self.old.next }
-        requires targets { AreTargetsBelow (length (R.rows rows.now)) (R.rows rows.now) }
-        ensures seen { OnOk result (self.new.seen.items ≡ map is_some levels.new.items) }
-        ensures levels { OnOk result (AreMarked level (targets_of (R.rows rows.now) self.old.next) levels.old.items levels.new.items self.new.next) }
-    {
-        let u = self.next.as_slice()[0];
-        self.next.clear();
-        self.mark_row(rows, u)?;
         give_levels(levels, level, self.next.as_slice());
         Ok(())
     }
@@ -339,12 +313,19 @@ impl Search {
 // Lays the rows flat, where they are not so yet and a frontier is so large a part of all vertices that most of them may be
 // expected to follow it.
 #[inline(always)]
-fn lay_flat<R: Rows>(
+fn lay_flat<T: Threads + Sync, R: Rows + Sync, G: Gate + Sync>(
+    rt: &T,
     alloc: Global,
     rows: &R,
     flat: &mut Option<Flat>,
     frontier: usize,
+    workers: u32,
+    gate: &G,
 ) -> Result<(), AllocError>
+where
+    R::At: Send,
+    requires some { 1 ≤ workers }
+    requires few { workers ≤ 16 }
     requires edges { edges_in (R.rows rows.now) ≤ 33554432 }
     requires flat { IfSome flat.old (λ f. IsFlat (R.rows rows.now) f.starts.items f.targets.items) }
     ensures { OnOk result (IfSome flat.new (λ f. IsFlat (R.rows rows.now) f.starts.items f.targets.items)) }
@@ -352,7 +333,7 @@ fn lay_flat<R: Rows>(
     if frontier < LARGE || flat.is_some() || frontier < rows.count() as usize / PART {
         return Ok(());
     }
-    *flat = Some(Flat::of(alloc, rows)?);
+    *flat = Some(Flat::of(rt, alloc, rows, workers, gate)?);
     Ok(())
 }
 
@@ -455,10 +436,34 @@ fn new_flat_targets<R: Rows>(
     ensures { IfOk result (λ v. v ≡ new_targets (R.rows rows.now) seen.now us.now) }
 {
     let mut found = Kept::new(alloc);
-    for &u in us {
-        push_all_new(seen, flat.row(rows, u), &mut found)?;
+    let mut firsts = Vec::with_capacity(alloc, AHEAD)?;
+    let mut start = 0;
+    while start < us.len() {
+        let len = AHEAD.min(us.len() - start);
+        firsts.clear();
+        look_up_flat(rows, flat, &us[start..start + len], &mut firsts)?;
+        push_rows(rows, flat, seen, &us[start..start + len], &mut found)?;
+        start += len;
     }
     Ok(found)
+}
+
+// Puts the targets of the edges that leave these vertices, where they were not found, at the end.
+fn push_rows<R: Rows>(
+    rows: &R,
+    flat: &Flat,
+    seen: &[bool],
+    us: &[u32],
+    found: &mut Kept,
+) -> Result<(), AllocError>
+    requires within { All (λ u. u < length (R.rows rows.now)) us.now }
+    requires flat { IsFlat (R.rows rows.now) flat.now.starts.items flat.now.targets.items }
+    ensures { OnOk result (found.new ≡ found.old ++ new_targets (R.rows rows.now) seen.now us.now) }
+{
+    for &u in us {
+        push_all_new(seen, flat.row(rows, u), found)?;
+    }
+    Ok(())
 }
 
 // Puts those of these vertices that were not found at the end.
@@ -471,7 +476,7 @@ fn push_all_new(seen: &[bool], vs: &[u32], found: &mut Kept) -> Result<(), Alloc
     Ok(())
 }
 
-// The same, from the rows as they stand.
+// The targets of the edges that leave these vertices that were not found, from the rows as they stand.
 fn new_targets<R: Rows>(
     alloc: Global,
     rows: &R,

@@ -5,6 +5,7 @@ mod breadth_first;
 mod flat;
 mod frontier;
 mod kept;
+mod path;
 
 pub use breadth_first::levels;
 
