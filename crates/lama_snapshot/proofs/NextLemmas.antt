@@ -5,7 +5,7 @@ use Rattle.std.specs.Arc.{arc_value}
 use Rattle.std.specs.declared.sync.Arc.{Arc}
 use Rattle.std.specs.declared.alloc.Global.{Global}
 use Rattle.std.proofs.lemmas.Bool.{cases_lt}
-use Rattle.std.proofs.lemmas.List.{get_or_past}
+use Rattle.std.proofs.lemmas.List.{get_or_past, length-map}
 use Rattle.std.proofs.lemmas.Option.{slice_get_within}
 use Rattle.lama_edges.specs.declared.records.Slot.{Slot}
 use Rattle.lama_edges.specs.declared.records.Slot.TheVariants.{Edge, Next}
@@ -19,6 +19,7 @@ use Rattle.lama_snapshot.specs.Chains.{Table, no_table, Layout, table_at, chain,
 use Rattle.lama_snapshot.specs.Snap.{Snap, IsTable, IsCell}
 use Rattle.lama_snapshot.specs.Shown.{shown}
 use Rattle.lama_snapshot.proofs.CellsFrom.{length-base_sources}
+use Rattle.lama_snapshot.proofs.ChainLemmas.{get-map-map}
 use Rattle.lama_snapshot.proofs.StepLemmas.{level_table, tail-within, next-step, end-step}
 
 pub floor-is : (s : Inside) (snap : Snap) (b : Numbered) (n : ℕ) → shown s ≡ snap → b ≡ arc_value s.base → n ≡ b.number → n ≡ snap.layout.floor
@@ -62,6 +63,21 @@ cell-within l c s is = by (cases_lt (length l.levels) c.table)
     by (inl past) =
         let none = ap (λ (t : Table). t.slots) (get_or_past (base_table l.base ∷ l.levels) c.table no_table (omega (arith, past))) in
         absurd (let lt = slice_get_within [] c.place s (ap (λ (xs : List Slot). slice_get xs c.place) (sym none) ∙ is) in omega (arith, lt))
+
+-- a level is the one above it, counted from the base, whose table is asked for
+pub level-is : (l : Layout) (items : List (Arc Level Global)) (r k : ℕ) (x : Arc Level Global) → map table_of (map arc_value items) ≡ l.levels → suc k ≡ r → k < length items → x ≡ get_or items k x → table_of (arc_value x) ≡ table_at l r
+level-is l items r k x levels up lt is =
+    ap (λ (y : Arc Level Global). table_of (arc_value y)) is
+    ∙ (sym (get-map-map arc_value table_of items k x no_table lt)
+    ∙ (ap (λ (xs : List Table). get_or xs k no_table) levels ∙ ap (table_at l) up))
+
+-- a cell that has a slot is in the base or in one of the levels
+pub cell-level : (l : Layout) (items : List (Arc Level Global)) (c : Cell) (s : Slot) → map table_of (map arc_value items) ≡ l.levels → slot_at l c ≡ Some s → c.table ≤ length items
+cell-level l items c s levels is =
+    let within = cell-within l c s is in
+    let size : length (map table_of (map arc_value items)) ≡ length items = length-map (map arc_value items) table_of ∙ length-map items arc_value in
+    let many = ap length levels in
+    omega (arith, within, size, many)
 
 -- the slots of a level are those of its table
 pub slots-above : (l : Layout) (level : ℕ) → l.floor < level → (level_table l level).slots ≡ (table_at l (level - l.floor)).slots

@@ -470,7 +470,8 @@ impl Snapshot {
         Some((self.target_at(cell), cell, rest))
     }
 
-    // The target of the edge in the cell.
+    // The target of the edge in the cell. Where there is one level alone, its table is read without a look at the number of the
+    // cell's table: a walk from row to row would wait for that.
     #[inline(always)]
     fn target_at(&self, cell: Cell) -> u32
         requires { IsEdgeCell self.now.layout cell }
@@ -479,6 +480,10 @@ impl Snapshot {
         let base: &Base = &self.base;
         if cell.table == 0 {
             return base.edges().target(cell.place);
+        }
+        if self.levels.len() == 1 {
+            let only: &Level = &self.levels[0];
+            return only.edges.target(cell.place);
         }
         let level: &Level = &self.levels[(cell.table - 1) as usize];
         level.edges.target(cell.place)
