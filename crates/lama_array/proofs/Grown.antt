@@ -1,7 +1,7 @@
 -- A list in pages of w records that gets more records at its end.
 use Rattle.std.proofs.Common.{◌≡◌, ℕ, zero, suc, ◌+◌, ◌-◌, ◌*◌, ◌/◌, ◌%◌, ◌<◌, ◌≤◌, List, [], ◌∷◌, ◌++◌, length, get_or, take, set, replicate, sym, ◌∙◌, ap, arith, length-append, append_assoc}
-use Rattle.std.proofs.lemmas.List.{append-nil, get_or_append_left, length-replicate, length-set, length-take, replicate-append-replicate, set-append_left, take-replicate, take_all}
-use Rattle.std.proofs.lemmas.List.Elements.{All-append, All-replicate, All-set}
+use Rattle.std.proofs.lemmas.List.{append-nil, get_or_append_left, length-replicate, replicate-append-replicate, set-append_left, take-replicate, take_all}
+use Rattle.std.proofs.lemmas.List.Elements.{All-append, All-replicate}
 use Rattle.lama_array.specs.Paged.{joined, IsPaged}
 use Rattle.lama_array.proofs.Paged.{AreWhole, joined-append, joined-replicate, length-joined, length-kept, take_past, whole-head, whole-tail}
 
@@ -73,16 +73,3 @@ module _ {A : Type 0} (len n m : ℕ) (x : A) (ps : List (List A)) (paged : IsPa
       tail-filled 256 ps (length ps - 1) (len % 256) x paged.whole last ∙ ap (λ k. take k (joined ps) ++ replicate (256 - len % 256) x) at in
       ap (λ t. take (len + n) (joined t)) (grown-pages inside)
       ∙ extended 256 len n (256 - len % 256) m x (take len (joined ps)) filled is (length-kept len ps paged) (omega (arith, count, at, last))
-
-  pub grown-in-page-paged : 0 < len % 256 → IsPaged (len + n) (set (ps ++ replicate m (replicate 256 x)) (length ps - 1) (take (len % 256) (get_or (ps ++ replicate m (replicate 256 x)) (length ps - 1) []) ++ replicate (256 - len % 256) x))
-  grown-in-page-paged inside =
-      let all = ps ++ replicate m (replicate 256 x) in
-      let at : length ps - 1 < length all = omega (arith, paged.covered, length-append ps (replicate m (replicate 256 x))) in
-      let whole : length (get_or all (length ps - 1) []) ≡ 256 = grown-paged.whole (length ps - 1) [] at in
-      let page = take (len % 256) (get_or all (length ps - 1) []) ++ replicate (256 - len % 256) x in
-      let size : length page ≡ 256 = omega (arith, length-append (take (len % 256) (get_or all (length ps - 1) [])) (replicate (256 - len % 256) x), length-take (len % 256) (get_or all (length ps - 1) []), length-replicate (256 - len % 256) x, whole) in
-      record {
-        whole = All-set (λ p. length p ≡ 256) all (length ps - 1) page size grown-paged.whole;
-        covered = omega (arith, grown-paged.covered, length-set all (length ps - 1) page);
-        tight = omega (arith, grown-paged.tight, length-set all (length ps - 1) page);
-      }

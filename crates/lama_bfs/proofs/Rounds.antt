@@ -37,10 +37,6 @@ first-unique t i k (Some n) (Some m) h h' = by (cases_lt n m) (cases_lt m n)
 some-inj : {x y : ℕ} → Some x ≡ Some y → x ≡ y
 some-inj {x = x} e = ap (λ o. elim o as (λ _. ℕ) [ None ↦ x | Some z ↦ z ]) e
 
-none-is : (o : Option ℕ) → is_none o ≡ true → o ≡ None
-none-is None e = refl
-none-is (Some x) e = absurd (true≢false (sym e))
-
 -- the targets of edges are vertices
 targets-below : (n : ℕ) (rows : List (List (ℕ × ℕ))) (us : List ℕ) → AreTargetsBelow n rows → All (λ v. v < n) (targets_of rows us)
 targets-below n rows [] h = λ k d lt. absurd (omega (arith, lt))
@@ -85,38 +81,19 @@ module _ (rows : List (List (ℕ × ℕ))) (s : ℕ) where
       by (inl lt) = lt
       by (inr le) = absurd (true≢false (sym edge ∙ (leads-row u v ∙ ap (λ r. is_among v (map (λ p. p.0) r)) (row-past rows u le))))
 
-  -- the vertices that have levels up to n have them, and those of level n are the frontier
-  pub record Round (n : ℕ) (found : List (Option ℕ)) (front : List ℕ) : Type 0 where
-    pub size : length found ≡ length rows
-    pub found_is : (v : ℕ) → v < length rows → IsFirst (reached v) 0 (n + 1) (slice_index_or found v None)
-    pub front_has : (v : ℕ) → v < length rows → is_among v front ≡ true → slice_index_or found v None ≡ Some n
-    pub has_front : (v : ℕ) → v < length rows → slice_index_or found v None ≡ Some n → is_among v front ≡ true
-    pub below : All (λ v. v < length rows) front
+  -- the level with which a vertex was found is the first that reaches it
+  found-first : (n : ℕ) (found : List (Option ℕ)) (front : List ℕ) → IsRound rows s n found front → (v : ℕ) → v < length rows → IsFirst (reached v) 0 (n + 1) (slice_index_or found v None)
+  found-first n found front r v lv = subst (IsFirst (reached v) 0 (n + 1)) (sym (r.found_are v lv)) (first-is (reached v) 0 (n + 1))
 
-  -- the same, as contracts say it
-  pub round-of : (n : ℕ) (found : List (Option ℕ)) (front : List ℕ) → IsRound rows s n found front → Round n found front
-  round-of n found front h = record {
-    size = h.size;
-    found_is = λ v lv. subst (IsFirst (reached v) 0 (n + 1)) (sym (h.found_are v lv)) (first-is (reached v) 0 (n + 1));
-    front_has = h.front_has;
-    has_front = h.has_front;
-    below = h.below;
-  }
+  -- and only that one is
+  first-found : (n v : ℕ) (o : Option ℕ) → IsFirst (reached v) 0 (n + 1) o → o ≡ first_from (reached v) 0 (n + 1)
+  first-found n v o h = first-unique (reached v) 0 (n + 1) o (first_from (reached v) 0 (n + 1)) h (first-is (reached v) 0 (n + 1))
 
-  pub of-round : (n : ℕ) (found : List (Option ℕ)) (front : List ℕ) → Round n found front → IsRound rows s n found front
-  of-round n found front r = record {
-    size = r.size;
-    found_are = λ v lv. first-unique (reached v) 0 (n + 1) (slice_index_or found v None) (first_from (reached v) 0 (n + 1)) (r.found_is v lv) (first-is (reached v) 0 (n + 1));
-    front_has = r.front_has;
-    has_front = r.has_front;
-    below = r.below;
-  }
-
-  module _ (n : ℕ) (found : List (Option ℕ)) (front : List ℕ) (r : Round n found front) where
+  module _ (n : ℕ) (found : List (Option ℕ)) (front : List ℕ) (r : IsRound rows s n found front) where
     -- a vertex of the frontier has level n
     front-least : (u : ℕ) → u < length rows → is_among u front ≡ true → Least g s small n u
     front-least u lt among =
-        let f = subst (IsFirst (reached u) 0 (n + 1)) (r.front_has u lt among) (r.found_is u lt) in
+        let f = subst (IsFirst (reached u) 0 (n + 1)) (r.front_has u lt among) (found-first n found front r u lt) in
         record { reached = f.passes; none = λ j lj. f.first j (omega arith) lj }
 
     -- what the frontier leads to is reached by one edge more
@@ -138,7 +115,7 @@ module _ (rows : List (List (ℕ × ℕ))) (s : ℕ) where
         let l = last-edge g.edges s n v (subst (λ k. reached v k ≡ true) next h) in
         let u = l.before in
         let lt : u < length rows = small u v l.edge in
-        let among : is_among u front ≡ true = r.has_front u lt (by u (slice_index_or found u None) (r.found_is u lt) l.reached l.edge) in
+        let among : is_among u front ≡ true = r.has_front u lt (by u (slice_index_or found u None) (found-first n found front r u lt) l.reached l.edge) in
         let f = any-found (λ w. w == u) front among in
         let at : f.one ≡ u = let e = f.passes in grind (arith, nat_tests, e) in
         any-flat_map (λ t. t == v) (λ u. map (λ p. p.0) (row_at rows u)) front
@@ -153,13 +130,13 @@ module _ (rows : List (List (ℕ × ℕ))) (s : ℕ) where
             by_place (inr le) = let w = f.within in let same : k ≡ n = omega (arith, le, w) in ap (λ k. Some k) same
 
     -- the next level
-    pub next-round : (found' : List (Option ℕ)) (front' : List ℕ) → AreMarked (n + 1) (targets_of rows front) found found' front' → Round (n + 1) found' front'
+    pub next-round : (found' : List (Option ℕ)) (front' : List ℕ) → AreMarked (n + 1) (targets_of rows front) found found' front' → IsRound rows s (n + 1) found' front'
     next-round found' front' h = record {
       size = h.len ∙ r.size;
-      found_is = λ v lt. subst (IsFirst (reached v) 0 (n + 1 + 1)) (sym (h.each v (omega (arith, lt, size))))
-          (is v (slice_index_or found v None) (is_among v (targets_of rows front)) (r.found_is v lt) refl);
+      found_are = λ v lt. first-found (n + 1) v (slice_index_or found' v None) (subst (IsFirst (reached v) 0 (n + 1 + 1)) (sym (h.each v (omega (arith, lt, size))))
+          (is v (slice_index_or found v None) (is_among v (targets_of rows front)) (found-first n found front r v lt) refl));
       front_has = λ v lt among. h.each v (omega (arith, lt, size)) ∙ ap (λ b. cond b (Some (n + 1)) (slice_index_or found v None)) (sym (h.next_are v (omega (arith, lt, size))) ∙ among);
-      has_front = λ v lt has. h.next_are v (omega (arith, lt, size)) ∙ has_it v (slice_index_or found v None) (is_new found v && is_among v (targets_of rows front)) (r.found_is v lt) (sym (h.each v (omega (arith, lt, size))) ∙ has);
+      has_front = λ v lt has. h.next_are v (omega (arith, lt, size)) ∙ has_it v (slice_index_or found v None) (is_new found v && is_among v (targets_of rows front)) (found-first n found front r v lt) (sym (h.each v (omega (arith, lt, size))) ∙ has);
       below = subst (λ k. All (λ v. v < k) front') size h.below;
     }
       where
@@ -188,10 +165,10 @@ module _ (rows : List (List (ℕ × ℕ))) (s : ℕ) where
   no_level = replicate (length rows) None
 
   -- before any edge
-  pub first-round : (found : List (Option ℕ)) → found ≡ set no_level s (Some 0) → s < length rows → Round 0 found (s ∷ [])
+  pub first-round : (found : List (Option ℕ)) → found ≡ set no_level s (Some 0) → s < length rows → IsRound rows s 0 found (s ∷ [])
   first-round found is lt = record {
     size = ap length is ∙ (length-set no_level s (Some 0) ∙ length-replicate (length rows) None);
-    found_is = λ v lv. subst (IsFirst (reached v) 0 1) (sym (at v lv)) (first v (cases_eq s v));
+    found_are = λ v lv. first-found 0 v (slice_index_or found v None) (subst (IsFirst (reached v) 0 1) (sym (at v lv)) (first v (cases_eq s v)));
     front_has = λ v lv among. at v lv ∙ ap (λ b. cond b (Some 0) None) (or-single (s == v) among);
     has_front = λ v lv has. or-left (s == v) false (has_it (s == v) (sym (at v lv) ∙ has));
     below = λ k d lk. single k d lk;
@@ -230,8 +207,8 @@ module _ (rows : List (List (ℕ × ℕ))) (s : ℕ) where
       single (suc k) d lk = absurd (omega (arith, lk))
 
   -- from a frontier of one vertex, whose only edge leads to one that has no level, to that one
-  pub next-of-one : (n : ℕ) (found : List (Option ℕ)) (u v : ℕ) → Round n found (u ∷ []) → AreTargetsBelow (length rows) rows → map (λ p. p.0) (row_at rows u) ≡ v ∷ []
-      → v < length found → is_new found v ≡ true → Round (n + 1) (set found v (Some (n + 1))) (v ∷ [])
+  pub next-of-one : (n : ℕ) (found : List (Option ℕ)) (u v : ℕ) → IsRound rows s n found (u ∷ []) → AreTargetsBelow (length rows) rows → map (λ p. p.0) (row_at rows u) ≡ v ∷ []
+      → v < length found → is_new found v ≡ true → IsRound rows s (n + 1) (set found v (Some (n + 1))) (v ∷ [])
   next-of-one n found u v r targets only lt new =
       next-round n found (u ∷ []) r (set found v (Some (n + 1))) (v ∷ []) (from-all (n + 1) rows (u ∷ []) found (set found v (Some (n + 1))) (v ∷ []) targets r.size is)
     where
@@ -242,7 +219,7 @@ module _ (rows : List (List (ℕ × ℕ))) (s : ℕ) where
       is = sym (ap (λ vs. mark_all (n + 1) (vs ++ []) (found, [])) only ∙ ap (λ (b : Bool). cond {A = State} b (set found v (Some (n + 1)), v ∷ []) (found, [])) here)
 
   -- a frontier has a level below the number of vertices
-  pub level-below : (n : ℕ) (found : List (Option ℕ)) (front : List ℕ) → Round n found front → 0 < length front → n < length rows
+  pub level-below : (n : ℕ) (found : List (Option ℕ)) (front : List ℕ) → IsRound rows s n found front → 0 < length front → n < length rows
   level-below n found [] r some = absurd (omega (arith, some))
   level-below n found (u ∷ us) r some =
       let self : (u == u) ≡ true = grind (arith, nat_tests) in
@@ -250,12 +227,12 @@ module _ (rows : List (List (ℕ × ℕ))) (s : ℕ) where
       least-below g s small n u lt (front-least n found (u ∷ us) r u lt (or-left (u == u) (is_among u us) self))
 
   -- where the frontier is empty, all levels are found
-  pub last-round : (n : ℕ) (found : List (Option ℕ)) → Round n found [] → found ≡ levels g s
+  pub last-round : (n : ℕ) (found : List (Option ℕ)) → IsRound rows s n found [] → found ≡ levels g s
   unfolding levels
   last-round n found r = ext_get_or None found (map (level g s) (range_with_len 0 (length rows)))
       (r.size ∙ sym (length-map (range_with_len 0 (length rows)) (level g s) ∙ length-range_with_len 0 (length rows)))
       (λ v lv. let lt : v < length rows = let e = r.size in omega (arith, e, lv) in
-      same v lt (slice_index_or found v None) (level g s v) (r.found_is v lt) (first-is (reached v) 0 (length rows))
+      same v lt (slice_index_or found v None) (level g s v) (found-first n found [] r v lt) (first-is (reached v) 0 (length rows))
       ∙ sym (get_or-map-range_with_len (level g s) 0 (length rows) v v None lt (let e : 0 + v ≡ v = omega arith in e)))
     where
       -- no vertex has level n, and so none has a greater one
@@ -266,7 +243,7 @@ module _ (rows : List (List (ℕ × ℕ))) (s : ℕ) where
           by (inl l) = l
           by (inr le) =
               let w = on-way g s small k v n lt h le in
-              let f = r.found_is w.0 w.2 in
+              let f = found-first n found [] r w.0 w.2 in
               let has : slice_index_or found w.0 None ≡ Some n = first-unique (reached w.0) 0 (n + 1) (slice_index_or found w.0 None) (Some n) f
               (record { passes = w.1.reached; from = omega arith; within = omega arith; first = λ j ge l. w.1.none j l }) in
               absurd (true≢false (sym (r.has_front w.0 w.2 has)))

@@ -9,13 +9,10 @@ use crate::kept::Kept;
 use lama_base::Gate;
 use lama_base::limits::MAX_VERTICES;
 use lama_model::Rows;
-use lama_work::map_pieces;
+use lama_work::{FEW, map_pieces};
 use std::alloc::{AllocError, Global};
 use std::mem::swap;
 use std::thread::Threads;
-
-// A frontier of fewer vertices is expanded where it stands: a thread takes longer to start than it would save.
-const FEW: usize = 400;
 
 // A frontier of fewer vertices is not worth laying the rows flat for.
 const LARGE: usize = 400;
@@ -273,7 +270,7 @@ impl Search {
         requires flat { IfSome flat.now (λ f. IsFlat (R.rows rows.now) f.starts.items f.targets.items) }
         ensures { OnOk result ((self.new.seen.items, self.new.next) ≡ see_all (targets_of (R.rows rows.now) frontier.now) (self.old.seen.items, self.old.next)) }
     {
-        if workers > 1 && frontier.len() >= FEW && frontier.len() <= MANY {
+        if workers > 1 && frontier.len() >= FEW as usize && frontier.len() <= MANY {
             self.expand_in_pieces(rt, alloc, rows, flat, frontier, workers, gate)
         } else if let Some(flat) = flat {
             self.expand_flat(alloc, rows, flat, frontier)

@@ -102,3 +102,31 @@ fn two_pieces_of_a_frontier_meet(rt: HostRuntime) -> Result<(), Fail> {
     );
     Ok(())
 }
+
+// The frontier of level 1 has 450 vertices among 16,384: enough for pieces, and too few to lay the rows flat for. Each of
+// its vertices leads to one of its own, and to 901.
+#[test]
+fn two_pieces_of_rows_as_they_stand_meet(rt: HostRuntime) -> Result<(), Fail> {
+    let alloc = rt.alloc();
+    let mut pairs = Vec::new(alloc);
+    for v in 1..451u32 {
+        pairs.push((0, v))?;
+        pairs.push((v, v + 450))?;
+        pairs.push((v, 901))?;
+    }
+    let rows = rows_of(alloc, 16384, &pairs)?;
+    let meeting = Meeting::new();
+    let found = levels(&rt, alloc, &rows, 0, 2, &meeting)?;
+    assert!(rt; meeting.met());
+    assert_eq!(rt; found.len(), 16384);
+    for v in 0..16384u32 {
+        let expected = match v {
+            0 => Some(0),
+            1..=450 => Some(1),
+            451..=901 => Some(2),
+            _ => None,
+        };
+        assert_eq!(rt; found.get(v as usize).copied(), Some(expected));
+    }
+    Ok(())
+}

@@ -1,7 +1,6 @@
 -- The slots that words and tails stand for.
-use Rattle.std.proofs.Common.{◌≡◌, ℕ, ◌+◌, ◌<◌, ◌≤◌, ◌==◌, zero, suc, Bool, true, false, List, [], ◌∷◌, ◌++◌, Option, Some, None, length, get_or, refl, sym, ap, ◌∙◌, arith, subst, length-append}
+use Rattle.std.proofs.Common.{◌≡◌, ℕ, ◌+◌, ◌<◌, ◌≤◌, ◌==◌, zero, suc, Bool, true, false, List, [], ◌∷◌, ◌++◌, Option, Some, None, length, get_or, refl, sym, ap, ◌∙◌, arith, subst}
 use Rattle.std.specs.Prelude.{All, slice_get, if◌then◌else◌}
-use Rattle.std.proofs.lemmas.List.Elements.{All-append}
 use Rattle.std.proofs.lemmas.Bool.Decides.{nat_tests}
 use Rattle.std.proofs.lemmas.Option.{slice_get_within, slice_get-get_or}
 use Rattle.lama_edges.specs.declared.records.Slot.{Slot}
@@ -20,10 +19,6 @@ edge_inj {w = w} e = ap (λ s. target_of s) e
     target_of (Edge t) = t
     target_of (Next l o k) = w
     target_of End = w
-
-all-one : (P : Tail → Type 0) (t : Tail) → P t → All P (t ∷ [])
-all-one P t p zero d lt = p
-all-one P t p (suc k) d lt = absurd (omega arith)
 
 pub length-slots : (ts : List Tail) (i : ℕ) (ws : List ℕ) → length (slots_from ts i ws) ≡ length ws
 length-slots ts i [] = refl
@@ -102,20 +97,6 @@ module _ (n : ℕ) (ts : List Tail) (are : AreTails n ts) where
       ∙ ap (λ o. slots_from (ts ++ t ∷ []) 0 ws ++ slot_by n k o ∷ []) got
       ∙ ap (λ (b : Bool). slots_from (ts ++ t ∷ []) 0 ws ++ (if b then t.slot else Edge k) ∷ []) yes
       ∙ ap (λ l. l ++ t.slot ∷ []) (slots-more ts t 0 ws (omega arith))
-
-  pub more-tails : (t : Tail) → IsTail t.slot → t.place ≡ n → AreTails (n + 1) (ts ++ t ∷ [])
-  more-tails t kind at = record {
-    kinds = All-append (λ (t : Tail). IsTail t.slot) ts (t ∷ []) are.kinds (all-one (λ (t : Tail). IsTail t.slot) t kind);
-    places = All-append (λ (t : Tail). t.place < n + 1) ts (t ∷ []) (λ k d lt. let below : (get_or ts k d).place < n = are.places k d lt in omega arith) (all-one (λ (t : Tail). t.place < n + 1) t (omega arith));
-    few = omega (arith, are.few, length-append ts (t ∷ []));
-  }
-
-  pub same-tails : AreTails (n + 1) ts
-  same-tails = record {
-    kinds = are.kinds;
-    places = λ k d lt. let below : (get_or ts k d).place < n = are.places k d lt in omega arith;
-    few = omega (arith, are.few);
-  }
 
   pub slot-read : (ws : List ℕ) (i w : ℕ) → i < length ws → w ≡ get_or ws i w → slice_get (slots_from ts 0 ws) i ≡ Some (slot_of ts i w)
   slot-read ws i w lt is =

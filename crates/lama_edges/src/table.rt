@@ -86,7 +86,8 @@ impl EdgeTable {
                 return (tail.slot, tail.next);
             }
         }
-        (self.slot(i), next_of(&self.tails, self.tail_number(i)))
+        let word = self.words.get(i);
+        (slot_of(&self.tails, i, word), next_of(&self.tails, word))
     }
 
     /// The number of the tail at place `i`, counted from 0, or anything where no tail is there. It takes no memory.

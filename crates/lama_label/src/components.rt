@@ -8,12 +8,9 @@ ghost use Rattle.lama_model.specs.Labels.{labels};
 use crate::lowering::{lower, total};
 use lama_base::Gate;
 use lama_model::Rows;
-use lama_work::edges_in_pieces;
+use lama_work::{FEW, edges_in_pieces};
 use std::alloc::{AllocError, Global};
 use std::thread::Threads;
-
-// A graph of fewer vertices is done in place: a thread takes longer to start than it would save.
-const FEW: u32 = 400;
 
 /// The label of each vertex, by its number: the least vertex of its weak component, which is all that walks lead to that
 /// may take each edge in either direction.

@@ -11,15 +11,14 @@ use Rattle.lama_model.specs.Pass.{calls_by, BeginsWith, IsByOneOf}
 use Rattle.lama_model.specs.declared.calls.Call.{Call}
 use Rattle.lama_model.specs.declared.calls.Entry.{Entry}
 use Rattle.lama_lock.specs.declared.view.Founding.{Founding}
-use Rattle.lama_lock.specs.declared.view.Stage.{Stage}
-use Rattle.lama_lock.specs.declared.view.Stage.TheVariants.{Idle, Empty, Holding}
+use Rattle.lama_lock.specs.declared.view.Stage.TheVariants.{Holding}
 use Rattle.lama_lock.specs.declared.view.Member.{Member}
 use Rattle.lama_lock.specs.declared.view.View.{View}
 use Rattle.lama_lock.specs.Views.{Known, pass, member_of}
-use Rattle.lama_lock.specs.Rule.{Board, IsMember, IsView, IsAt, IsRight, Holds}
+use Rattle.lama_lock.specs.Rule.{Board, IsMember, IsView, IsRight, Holds}
 use Rattle.lama_lock.specs.Steps.{with_calls, marked}
 use Rattle.lama_lock.proofs.Callers.{whole, same-held, within, calls-other, begins-more, named-more, seen-short}
-use Rattle.lama_lock.proofs.Moves.{each-after}
+use Rattle.lama_lock.proofs.Moves.{each-after, turnless, of-other}
 
 module _ {B : Type 0} (journal : B → List Entry) (fits : B → B → Type 0) (f : Founding B) where
   abbrev start : ℕ
@@ -38,12 +37,6 @@ module _ {B : Type 0} (journal : B → List Entry) (fits : B → B → Type 0) (
     seen = begins-more start b.log e from m.seen old.seen;
     own = old.own ∙ sym (calls-other start b.log e from m.caller other);
   }
-
-  -- no one else has the turn
-  not-turned : (b : Board B) (log : List Entry) (id i : ℕ) (v : View B) (stage : Stage) → b.turner ≡ id → i ≢ id → IsAt journal fits f b i v stage → IsAt journal fits f (logged b log) i v stage
-  not-turned b log id i v Idle turner other at = at
-  not-turned b log id i v Empty turner other at = absurd (other (sym at.0.1 ∙ turner))
-  not-turned b log id i v Holding turner other at = absurd (other (sym at.0.1 ∙ turner))
 
   module _ (b : Board B) (s : State (Option B) (View B)) (r : IsRight journal fits f b s) (id : ℕ) (k : Known B) (at : get_elem? s.views id ≡ some (pass Holding k)) where
     held : IsView journal fits f b id (pass Holding k)
@@ -91,7 +84,7 @@ module _ {B : Type 0} (journal : B → List Entry) (fits : B → B → Type 0) (
                 }
                 (λ i v other u. record {
                   founding = u.founding;
-                  stage = not-turned b (journal x) id i v v.stage held.stage.0.1 other u.stage;
+                  stage = (let idle = of-other journal fits f b id i v held.stage.0.1 other in turnless journal fits f b (logged b (journal x)) i v v.stage idle idle u.stage);
                   starting = u.starting;
                   members = All-weaker (IsMember start b.log b.drawn b.holder i) (P i)
                       (λ m old. subst (λ (l : List Entry). IsMember start l b.drawn b.holder i m) (sym grown)

@@ -33,12 +33,16 @@ module _ {B : Type 0} (journal : B → List Entry) (fits : B → B → Type 0) (
       (λ there. others i v there.0 (old i v there.1))
       (at_set views id i w v at)
 
-  -- the turn goes to another
-  aside : (b : Board B) (id i : ℕ) (v : View B) (stage : Stage) → b.turn ≡ 0 → i ≢ id → IsAt journal fits f b i v stage
-      → IsAt journal fits f (record b { turn = 1; turner = id; home = none }) i v stage
-  aside b id i v Idle free other at = λ turned same. other (sym same)
-  aside b id i v Empty free other at = absurd (omega (arith, free, at.0.0))
-  aside b id i v Holding free other at = absurd (omega (arith, free, at.0.0))
+  -- a view that has not the turn, neither before nor after
+  pub turnless : (b c : Board B) (i : ℕ) (v : View B) (stage : Stage) → IsAt journal fits f b i v Idle → IsAt journal fits f c i v Idle
+      → IsAt journal fits f b i v stage → IsAt journal fits f c i v stage
+  turnless b c i v Idle before after at = after
+  turnless b c i v Empty before after at = absurd (before at.0.0 at.0.1)
+  turnless b c i v Holding before after at = absurd (before at.0.0 at.0.1)
+
+  -- another has the turn
+  pub of-other : (b : Board B) (id i : ℕ) (v : View B) → b.turner ≡ id → i ≢ id → IsAt journal fits f b i v Idle
+  of-other b id i v turner other = λ turned same. other (sym same ∙ turner)
 
   -- the caller's own list, where it takes the turn
   taken-member : (b : Board B) (id : ℕ) (m : Member) (log : List Entry) → log ≡ b.log → IsMember (length (journal f.value)) b.log b.drawn b.holder id m
@@ -75,7 +79,7 @@ module _ {B : Type 0} (journal : B → List Entry) (fits : B → B → Type 0) (
                   starting = λ no. absurd (false≢true no);
                   members = All-cons (IsMember (length (journal f.value)) b.log b.drawn b.holder id) _ [] (taken-member b id _ (journal x) same m) (All-nil (IsMember (length (journal f.value)) b.log b.drawn b.holder id));
                 }
-                (λ i v other u. record { founding = u.founding; stage = aside b id i v v.stage free other u.stage; starting = u.starting; members = u.members });
+                (λ i v other u. record { founding = u.founding; stage = turnless b c i v v.stage (λ turned. absurd (omega (arith, free, turned))) (λ turned same. other (sym same)) u.stage; starting = u.starting; members = u.members });
           },
         )
 

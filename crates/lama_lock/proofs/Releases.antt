@@ -1,5 +1,5 @@
 -- The turn is let go, and the slot comes home.
-use Rattle.std.proofs.Common.{◌≡◌, ◌≢◌, ℕ, ⊎_elim, Bool, List, [], ◌∷◌, refl, sym, ap, ◌∙◌, subst, arith, Option, Some, None, set, get_or, false, true}
+use Rattle.std.proofs.Common.{◌≡◌, ℕ, ⊎_elim, Bool, List, [], ◌∷◌, refl, sym, ap, ◌∙◌, subst, arith, Option, Some, None, set, get_or, false, true}
 use Rattle.std.proofs.lemmas.List.Elements.{All-head}
 use mathlib.Core.Option.{some, none}
 use lib.ListN.{get_elem?}
@@ -12,10 +12,10 @@ use Rattle.lama_lock.specs.declared.view.Stage.TheVariants.{Idle, Empty, Holding
 use Rattle.lama_lock.specs.declared.view.Member.{Member}
 use Rattle.lama_lock.specs.declared.view.View.{View}
 use Rattle.lama_lock.specs.Views.{Known, pass, member_of, starting}
-use Rattle.lama_lock.specs.Rule.{Board, IsAt, HasTurn, IsRight, Holds}
+use Rattle.lama_lock.specs.Rule.{Board, HasTurn, IsRight, Holds}
 use Rattle.lama_lock.specs.Steps.{freed, opened, begun}
 use Rattle.lama_lock.proofs.Callers.{same-held, founding-is, within}
-use Rattle.lama_lock.proofs.Moves.{each-after}
+use Rattle.lama_lock.proofs.Moves.{each-after, turnless, of-other}
 
 -- a view, by its parts
 abbrev pub shape : {B : Type 0} → Option (Founding B) → Stage → Bool → ℕ → List Member → View B
@@ -24,12 +24,6 @@ shape fo stage st d ms = record { founding = fo; stage = stage; starting = st; d
 module _ {B : Type 0} (journal : B → List Entry) (fits : B → B → Type 0) (f : Founding B) where
   abbrev pub freely : Board B → B → Board B
   freely b x = record b { turn = 0; home = some (Some x) }
-
-  -- no one else had the turn
-  released : (b : Board B) (x : B) (id i : ℕ) (v : View B) (stage : Stage) → b.turner ≡ id → i ≢ id → IsAt journal fits f b i v stage → IsAt journal fits f (freely b x) i v stage
-  released b x id i v Idle turner other at = λ no. absurd (omega (arith, no))
-  released b x id i v Empty turner other at = absurd (other (sym at.0.1 ∙ turner))
-  released b x id i v Holding turner other at = absurd (other (sym at.0.1 ∙ turner))
 
   lets-go : (b : Board B) (s : State (Option B) (View B)) → IsRight journal fits f b s → (id : ℕ) (fo : Option (Founding B)) (st : Bool) (d : ℕ) (ms : List Member)
       → get_elem? s.views id ≡ some (shape fo Holding st d ms) → (x : B) → journal x ≡ b.log → fits f.value x
@@ -50,7 +44,7 @@ module _ {B : Type 0} (journal : B → List Entry) (fits : B → B → Type 0) (
           taken = λ no. absurd (omega (arith, no));
           each = each-after journal fits f b c s.views id (shape fo Idle st d ms) r.each
               record { founding = old.founding; stage = λ no. absurd (omega (arith, no)); starting = old.starting; members = old.members }
-              (λ i v other u. record { founding = u.founding; stage = released b x id i v v.stage old.stage.0.1 other u.stage; starting = u.starting; members = u.members });
+              (λ i v other u. record { founding = u.founding; stage = turnless journal fits f b c i v v.stage (of-other journal fits f b id i v old.stage.0.1 other) (λ no. absurd (omega (arith, no))) u.stage; starting = u.starting; members = u.members });
         },
       )
 
@@ -84,12 +78,6 @@ module _ {B : Type 0} (journal : B → List Entry) (fits : B → B → Type 0) (
         λ h' y e'. subst (λ (t : Founding B). ◌≡◌ {A = Me (Option B) (View B)} (starting g Idle 0, []) (starting t Idle 0, [])) (founding-is g h' (λ i. (e' i).0.founding)) refl,
       ))
 
-  -- the slot is taken, and the turn stays where it is
-  emptied : (b : Board B) (id i : ℕ) (v : View B) (stage : Stage) → b.turner ≡ id → i ≢ id → IsAt journal fits f b i v stage → IsAt journal fits f (record b { home = none }) i v stage
-  emptied b id i v Idle turner other at = at
-  emptied b id i v Empty turner other at = absurd (other (sym at.0.1 ∙ turner))
-  emptied b id i v Holding turner other at = absurd (other (sym at.0.1 ∙ turner))
-
   pub opens : (slots : ℕ) → slots ≡ 1 → (id : ℕ) (m : Me (Option B) (View B)) (g : Founding B) → m ≡ (starting g Empty 0, [])
       → Allows (Holds journal fits f) slots id m 0 (λ n. n) (opened journal fits m)
   opens slots one id m g e = subst (λ (y : Me (Option B) (View B)). Allows (Holds journal fits f) slots id y 0 (λ n. n) (opened journal fits y)) (sym e)
@@ -111,7 +99,7 @@ module _ {B : Type 0} (journal : B → List Entry) (fits : B → B → Type 0) (
             taken = λ yes. (starting g Holding 0, subst (λ (n : ℕ). get_elem? (set s.views id (starting g Holding 0)) n ≡ some (starting g Holding 0)) (sym old.stage.0.1) (set_here s.views id (starting g Holding 0) (within s.views id (starting g Empty 0) at)));
             each = each-after journal fits f b c s.views id (starting g Holding 0) r.each
                 record { founding = old.founding; stage = (old.stage.0, refl); starting = old.starting; members = old.members }
-                (λ i v other u. record { founding = u.founding; stage = emptied b id i v v.stage old.stage.0.1 other u.stage; starting = u.starting; members = u.members });
+                (λ i v other u. record { founding = u.founding; stage = (let idle = of-other journal fits f b id i v old.stage.0.1 other in turnless journal fits f b c i v v.stage idle idle u.stage); starting = u.starting; members = u.members });
           },
         ),
         λ h' e'. subst (λ (t : Founding B). ◌≡◌ {A = Me (Option B) (View B)} (starting g Holding 0, (0, None) ∷ []) (starting t Holding 0, (0, None) ∷ [])) (founding-is g h' (λ i. (e' i).0.founding)) refl,

@@ -24,10 +24,6 @@ value_after-push : (i : ℕ) (ps : List (ℕ × ℕ)) (p : ℕ × ℕ) (old : �
 value_after-push i [] p old = refl
 value_after-push i (q ∷ ps) p old = value_after-push i ps p (cond (eqb q.0 i) q.1 old)
 
--- none is written yet
-pub written-none : (values : List ℕ) → AreWritten [] values values
-written-none values = record { len = refl; each = λ i lt. refl }
-
 -- what stands at a place after a write
 at-set : (xs : List ℕ) (p x i : ℕ) → p < length xs → (p ≡ i) ⊎ (p ≢ i) → slice_index (set xs p x) i ≡ cond (eqb p i) x (slice_index xs i)
 at-set xs p x i lt (inl is) =

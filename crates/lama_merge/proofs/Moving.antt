@@ -2,7 +2,7 @@
 use Rattle.std.proofs.Common.{◌≡◌, ◌∙◌, ℕ, ◌+◌, ◌-◌, ◌<◌, ◌≤◌, List, [], ◌∷◌, ◌++◌, length, get_or, map, drop, refl, sym, ap, subst, arith, inl, inr, ◌⊎◌}
 use Rattle.std.specs.List.{range_with_len}
 use Rattle.std.proofs.lemmas.Bool.{cases_lt}
-use Rattle.std.proofs.lemmas.List.{map-append, get_or_append_left, get_or_push, ext_get_or, length-map, get_or-map, length-drop, get_or-drop, drop_all}
+use Rattle.std.proofs.lemmas.List.{map-append, get_or_append_left, get_or_push, ext_get_or, length-map, get_or-map, length-drop, get_or-drop}
 use Rattle.std.proofs.lemmas.List.FromFn.{length-map-range_with_len, get_or-map-range_with_len, map-range_with_len_more}
 use Rattle.lama_model.specs.Row.{row_at}
 use Rattle.lama_model.specs.Change.{Change, row_after}
@@ -35,19 +35,6 @@ pub own-change : (changes : ℕ → Change) (s : Snap) → Holds changes s → f
 own-change changes s held lt =
     ap (λ cs. get_or cs (s.number - floor_of s - 1) no_change) held
     ∙ get_or-map-range_with_len changes (floor_of s + 1) (s.number - floor_of s) (s.number - floor_of s - 1) s.number no_change (omega (arith, lt)) (omega (arith, lt))
-
--- the snapshot of the merged number is the merged base itself
-pub is-base : (changes : ℕ → Change) (m : Numbered) (before : List Snap) (old new : Snap) → IsReady changes m before old → old.number ≡ m.number → floor_of old < m.number → new.number ≡ m.number → new.base ≡ m → new.rows ≡ m.rows → new.changes ≡ [] → IsRebased m old new
-is-base changes m before old new ready same above number base rows none =
-    let floor : floor_of new ≡ m.number = ap (λ (b : Numbered). b.number) base in
-    let size = ap length ready.held ∙ length-map-range_with_len changes (floor_of old + 1) (old.number - floor_of old) in
-    record {
-      number = number ∙ sym same;
-      rows = rows ∙ ready.merged same;
-      onto = λ low high. base;
-      stays = λ out. elim out [ inl lt ↦ absurd (omega (arith, lt, same)) | inr le ↦ absurd (omega (arith, le, above)) ];
-      changes = none ∙ sym (drop_all (floor_of new - floor_of old) old.changes (omega (arith, size, floor, same, above)));
-    }
 
 -- a later one is the one before it with its own change done
 pub is-after : (changes : ℕ → Change) (m : Numbered) (before : List Snap) (old new : Snap) (c : Change) → IsReady changes m before old → m.number < old.number → floor_of old < m.number → c ≡ changes old.number →

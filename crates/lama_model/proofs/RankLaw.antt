@@ -181,9 +181,6 @@ module _ (g : Graph) (is : IsGraph g) where
       let here : get_or (range_with_len 0 g.count) v 0 ≡ v = get_or-range_with_len 0 g.count v 0 lt ∙ (let e : 0 + v ≡ v = omega arith in e) in
       subst (λ u. f u ≤ sum_by f (range_with_len 0 g.count)) here (get_or-le-sum_by f (range_with_len 0 g.count) v 0 (omega (arith, lt, n)))
 
-  pub rank-bounded : (i v : ℕ) → v < g.count → rank g i v ≤ g.count * 1000000
-  rank-bounded i v lt = let one = at-most (rank g i) v lt in let all = sum-ranks i in omega (arith, one, all)
-
   pub handed-bounded : (i v : ℕ) → v < g.count → sum_by (λ e. rank g i e.source / out_degree e.source g.edges) (filter (λ e. e.target == v) g.edges) ≤ g.count * 1000000
   handed-bounded i v lt = let one = at-most (handed (rank g i)) v lt in let le = handed-le (rank g i) in let all = sum-ranks i in omega (arith, one, le, all)
 

@@ -1,41 +1,15 @@
 -- The lists of edges, one for each piece of the vertices that they lead to, and what a round leaves of all pieces.
-use Rattle.std.proofs.Common.{◌≡◌, ◌∙◌, ℕ, zero, suc, ◌+◌, ◌-◌, ◌<◌, ◌≤◌, List, [], ◌∷◌, length, get_or, map, Bool, refl, sym, ap, subst, arith}
+use Rattle.std.proofs.Common.{◌≡◌, ◌∙◌, ℕ, ◌+◌, ◌-◌, ◌<◌, ◌≤◌, List, [], ◌∷◌, length, get_or, map, Bool, refl, sym, ap, subst, arith}
 use Rattle.std.specs.List.{flat_map, range_with_len}
-use Rattle.std.proofs.lemmas.List.{append-nil, length-map, get_or-map, map-append, ext_get_or}
+use Rattle.std.proofs.lemmas.List.{get_or-map, map-append, ext_get_or}
 use Rattle.std.proofs.lemmas.List.FromFn.{length-range_with_len, length-map-range_with_len, get_or-map-range_with_len}
 use Rattle.lama_model.specs.Row.{AreTargetsBelow}
 use Rattle.lama_model.specs.Ranks.{rank_of_sum}
 use Rattle.lama_model.proofs.EdgePairs.{range-part}
 use Rattle.lama_work.specs.Pieces.{piece_start}
-use Rattle.lama_work.proofs.Cover.{starts-rise, starts-within, first-start, last-end, cover}
+use Rattle.lama_work.proofs.Cover.{starts-rise, starts-within, cover}
 use Rattle.lama_rank.specs.Rounds.{handed, all_edges, edges_to, left_of, after_round, AreByTarget, AreInPiece}
-use Rattle.lama_rank.proofs.Handing.{to-all, all-ends, in-piece, handed-part, after-same}
-
--- one list of all edges
-pub one-by-target : (rows : List (List (ℕ × ℕ))) → AreTargetsBelow (length rows) rows → AreByTarget rows (all_edges rows ∷ [])
-one-by-target rows below zero d lt =
-    sym (to-all (length rows) (all_edges rows) (all-ends rows below))
-    ∙ (λ j. edges_to (sym (first-start (length rows) 1 (omega arith)) j) (sym (last-end (length rows) 1 (omega arith)) j) (all_edges rows))
-one-by-target rows below (suc i) d lt = absurd (omega (arith, lt))
-
--- the same, where it is the only one
-pub whole-by-target : {T : Type 0} (rows : List (List (ℕ × ℕ))) (items : T → List (ℕ × ℕ)) → AreTargetsBelow (length rows) rows → (vs : List T) → length vs ≡ 1
-    → flat_map items vs ≡ all_edges rows → AreByTarget rows (map items vs)
-whole-by-target rows items below [] size all = absurd (omega (arith, size))
-whole-by-target rows items below (v ∷ []) size all =
-    subst (AreByTarget rows) (ap (λ l. l ∷ []) (sym all ∙ append-nil (items v))) (one-by-target rows below)
-whole-by-target rows items below (v ∷ w ∷ vs) size all = absurd (omega (arith, size))
-
-pub pieces-by-target : {T : Type 0} (rows : List (List (ℕ × ℕ))) (items : T → List (ℕ × ℕ)) (n workers : ℕ) → n ≡ length rows → (vs : List T) → length vs ≡ workers
-    → ((i : ℕ) (d : T) → i < workers → items (get_or vs i d) ≡ edges_to (piece_start n workers i) (piece_start n workers (i + 1)) (all_edges rows))
-    → AreByTarget rows (map items vs)
-pieces-by-target rows items n workers count [] size each i d lt = absurd (omega (arith, lt))
-pieces-by-target rows items n workers count (v ∷ vs) size each i d lt =
-    let many : length (map items (v ∷ vs)) ≡ workers = length-map (v ∷ vs) items ∙ size in
-    let here : i < workers = omega (arith, lt, many) in
-    get_or-map items (v ∷ vs) i v d (omega (arith, here, size))
-    ∙ (each i v here
-    ∙ (λ j. edges_to (piece_start (count j) (sym many j) i) (piece_start (count j) (sym many j) (i + 1)) (all_edges rows)))
+use Rattle.lama_rank.proofs.Handing.{all-ends, in-piece, handed-part, after-same}
 
 module _ (rows : List (List (ℕ × ℕ))) (below : AreTargetsBelow (length rows) rows) (lists : List (List (ℕ × ℕ))) (by : AreByTarget rows lists)
     (n workers : ℕ) (count : n ≡ length rows) (many : workers ≡ length lists) (some : 1 ≤ workers) where
@@ -80,8 +54,3 @@ piece-is last degrees shares edges start k sums after size handed-to ends =
     let here : i < k = omega (arith, lt, size) in
     ends i here ∙ (ap (λ s. left_of last (get_or degrees (start + i) 0) (rank_of_sum s)) (handed-to i here)
     ∙ sym (get_or-map-range_with_len (λ v. left_of last (get_or degrees v 0) (rank_of_sum (handed shares edges v))) start k i (start + i) 0 here refl)))
-
--- an answer at its place
-pub answers-at : {T : Type 0} (items : T → List ℕ) (rs : List T) (i : ℕ) (d r : List ℕ) {n : ℕ} → length rs ≡ n → i < n → ((x : T) → items (get_or rs i x) ≡ r) → get_or (map items rs) i d ≡ r
-answers-at items [] i d r size lt is = absurd (omega (arith, size, lt))
-answers-at items (x ∷ rs) i d r size lt is = get_or-map items (x ∷ rs) i x d (omega (arith, size, lt)) ∙ is x

@@ -10,13 +10,11 @@ use crate::blocks::edges_by_block;
 use crate::round::{round, share};
 use lama_base::Gate;
 use lama_model::Rows;
+use lama_work::FEW;
 use std::alloc::{AllocError, Global};
 use std::thread::Threads;
 
-// A graph of fewer vertices is done in one piece: a thread takes longer to start than it would save.
-const FEW: u32 = 400;
-
-// How many blocks the vertices of other graphs make. Of 500,000 vertices, the sums of a block take 250 kB.
+// How many blocks the vertices make where they are not few. Of 500,000 vertices, the sums of a block take 250 kB.
 const BLOCKS: u32 = 16;
 
 /// The PageRank of each vertex, by its number, after so many rounds, in whole numbers (after Page, Brin, Motwani and

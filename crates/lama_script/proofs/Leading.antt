@@ -1,5 +1,5 @@
 -- A number that is read from the front of a text.
-use Rattle.std.proofs.Common.{◌≡◌, ◌∙◌, ℕ, ◌+◌, ◌<◌, ◌≤◌, true, false, List, length, take, drop, get_or, Option, None, Some, refl, sym, ap, arith}
+use Rattle.std.proofs.Common.{◌≡◌, ◌∙◌, ℕ, ◌+◌, ◌<◌, ◌≤◌, true, List, length, take, drop, get_or, Option, None, Some, sym, ap, arith}
 use Rattle.std.specs.Prelude.{⊤, MatchOption}
 use Rattle.std.specs.List.{list_all, fold, position_or_len}
 use Rattle.std.proofs.lemmas.Bool.Decides.{nat_tests}
@@ -15,12 +15,6 @@ pub record AreDigits (text : List ℕ) (i value : ℕ) : Type 0 where
   pub digits : list_all is_digit (take i text) ≡ true
   pub value_is : value ≡ fold with_digit 0 (take i text)
   pub no_blank : position_or_len is_blank text ≡ i + position_or_len is_blank (drop i text)
-
-pub no-digits : (text : List ℕ) → AreDigits text 0 0
-no-digits text = record { small = omega arith; digits = refl; value_is = refl; no_blank = omega arith }
-
-digit-no_blank : (b : ℕ) → is_digit b ≡ true → is_blank b ≡ false
-digit-no_blank b is = grind (arith, nat_tests, is)
 
 module _ (text : List ℕ) (i value : ℕ) (are : AreDigits text i value) where
   value-is : i ≤ length text → 0 < i → number (take i text) ≡ Some value

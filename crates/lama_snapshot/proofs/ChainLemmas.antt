@@ -1,8 +1,8 @@
 -- Chains, level by level.
-use Rattle.std.proofs.Common.{◌≡◌, ◌≢◌, ◌∙◌, ℕ, zero, suc, ◌+◌, ◌-◌, ◌<◌, ◌≤◌, List, [], ◌∷◌, length, get_or, map, refl, sym, ap, arith, inl, inr, ◌⊎◌, true, false, cond, eqb, leb, Option, Some, None}
-use Rattle.std.specs.Prelude.{unwrap_or, IsSome}
+use Rattle.std.proofs.Common.{◌≡◌, ◌≢◌, ◌∙◌, ℕ, zero, suc, ◌+◌, ◌-◌, ◌<◌, ◌≤◌, List, [], ◌∷◌, length, get_or, map, refl, sym, ap, arith, inl, inr, ◌⊎◌, true, false, cond, eqb, leb, Some}
+use Rattle.std.specs.Prelude.{unwrap_or}
 use Rattle.std.specs.List.{range_with_len}
-use Rattle.std.proofs.lemmas.Bool.{cases_eq, false≢true}
+use Rattle.std.proofs.lemmas.Bool.{cases_eq}
 use Rattle.std.proofs.lemmas.Bool.Decides.{nat_tests}
 use Rattle.lama_edges.specs.declared.records.VertexRec.{VertexRec}
 use Rattle.lama_model.specs.Row.{row_at}
@@ -102,10 +102,6 @@ pub row-visible : (cols : Columns) (cells : List (List (ℕ × Cell))) (v : ℕ)
 row-visible cols [] v = refl
 row-visible cols (x ∷ xs) zero = refl
 row-visible cols (x ∷ xs) (suc v) = row-visible cols xs v
-
-pub some-is : {A : Type 0} (o : Option A) (d x : A) → IsSome o → unwrap_or o d ≡ x → o ≡ Some x
-some-is None d x h is = absurd (false≢true h)
-some-is (Some y) d x h is = ap (λ z. Some z) is
 
 -- a place in the base for a record that leads there
 pub place-base : (l : Layout) (v level o left lv o' len : ℕ) (rows : List (List (ℕ × ℕ))) → level ≤ l.floor → lv ≤ l.floor → l.base ≡ rows → base_cells rows o left ≡ Some (base_places rows v) →

@@ -108,9 +108,6 @@ written-more n before rows c slots slots' weights weights' records records' h lt
         get_or-set_other records c.source v (record_with n (length slots) (length c.added) (length c.killed) (get_or records c.source no_record)) no_record (λ e. ne (sym e))
         ∙ (h.records_are v l ∙ sym (ap (λ b. cond b (record_with n (0 + slots_of rows) (length c.added) (length c.killed) (get_or before v no_record)) (record_after n before 0 rows v)) other))
 
-pub written-none : (n : ℕ) (before : List VertexRec) → IsWritten n before [] [] [] before
-written-none n before = record { slots_are = refl; weights_are = refl; len = refl; records_are = λ v l. refl; degrees = omega arith }
-
 -- what is known of the i-th row
 pub rising-below : (rows : List RowChange) (i : ℕ) (c : RowChange) → IsStrictlyIncreasing (map (λ (r : RowChange). r.source) rows) → i < length rows → get_or rows i c ≡ c → All (λ (r : RowChange). r.source < c.source) (take i rows)
 rising-below rows i c rising lt is k d l =

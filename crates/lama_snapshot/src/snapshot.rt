@@ -391,9 +391,8 @@ impl Snapshot {
         Some(cell_at(at.level.saturating_sub(base.number()), at))
     }
 
-    // The place that has an edge in its fragment, from one on at the end of its own, or one at the end of the row. It
-    // stands apart, so that a loop over edges has the registers for itself.
-    #[inline(never)]
+    // The place that has an edge in its fragment, from one on at the end of its own, or one at the end of the row.
+    #[inline(always)]
     fn next_fragment(&self, v: u32, level: u32, offset: u32, tail: u32) -> SnapshotAt
         requires { IsPlace self.now.layout (length self.now.rows) v level offset 0 }
         ensures place { IsPlace self.now.layout (length self.now.rows) result.v result.level result.offset result.left }

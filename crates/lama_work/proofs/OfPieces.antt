@@ -14,10 +14,6 @@ module _ {F T E : Type 0} (g : Shared F (ℕ × (ℕ × (ℕ × Unit {0}))) (Res
       (get_or-map Ok vs i d (Ok d) (subst (λ k. i < k) (sym len ∙ ap length (sym same) ∙ length-map vs Ok) within))
       (subst (λ l. GivesPiece g f n workers i (slice_index_or l i (Ok d))) (sym same) (each i (Ok d) within))
 
-  -- No piece is left behind the last one.
-  pub from_none : (from : ℕ) → from ≡ workers → AreFrom g f n workers from []
-  from_none from last = record { len = omega (arith, last); each = λ k d lt. absurd (omega (arith, lt)) }
-
   each-next : (from : ℕ) (r : Result T E) (rs : List (Result T E)) → GivesPiece g f n workers from r → AreFrom g f n workers (from + 1) rs
       → (k : ℕ) (d : Result T E) → k < length (r ∷ rs) → GivesPiece g f n workers (from + k) (slice_index_or (r ∷ rs) k d)
   each-next from r rs first rest zero d lt = subst (λ i. GivesPiece g f n workers i r) {x = from} (omega arith) first
@@ -27,7 +23,3 @@ module _ {F T E : Type 0} (g : Shared F (ℕ × (ℕ × (ℕ × Unit {0}))) (Res
   pub from_next : (from : ℕ) (r : Result T E) (rs all : List (Result T E)) → all ≡ (r ∷ []) ++ rs → GivesPiece g f n workers from r → AreFrom g f n workers (from + 1) rs → AreFrom g f n workers from all
   from_next from r rs all is first rest =
       subst (AreFrom g f n workers from) (sym is) (record { len = omega (arith, rest.len); each = each-next from r rs first rest })
-
-  -- Those from the first piece on are all of them.
-  pub from_first : (rs : List (Result T E)) → AreFrom g f n workers 0 rs → AreOfPieces g f n workers rs
-  from_first rs all i d lt = subst (λ k. GivesPiece g f n workers k (slice_index_or rs i d)) {x = 0 + i} (omega arith) (all.each i d (omega (arith, all.len, lt)))

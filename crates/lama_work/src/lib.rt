@@ -6,7 +6,7 @@ mod edge_lists;
 mod pieces;
 
 pub use edge_lists::edges_in_pieces;
-pub use pieces::{cut, map_pieces};
+pub use pieces::{FEW, cut, map_pieces};
 
 #[cfg(test)]
 mod tests;

@@ -6,6 +6,10 @@ use lama_base::{Gate, PIECE_BEGINS};
 use std::alloc::{AllocError, Global};
 use std::thread::{Threads, join};
 
+/// Fewer items than these are not worth a thread: it takes longer to start than it would save. A caller with fewer does them in
+/// one piece.
+pub const FEW: u32 = 400;
+
 /// Piece `i` of the numbers below `n`, cut for so many workers: where it begins, and where it ends, which is no longer in
 /// it. The pieces lie one after another, and none is more than one longer than another. It takes no memory.
 pub fn cut(n: u32, workers: u32, i: u32) -> (u32, u32)

@@ -69,10 +69,6 @@ cut_line rest end lt is =
     drop_at : drop end rest ≡ get_or rest end 0 ∷ drop (end + 1) rest
     drop_at = rw (add-one, drop-cons rest end 0) refl
 
--- nothing was written yet, and nothing came
-pub Wrote-none : (w : Option (List ℕ)) (s : Session) → Appends w w [] → Wrote w w s s []
-Wrote-none w s none = record { said = []; appended = none; kept = λ more. refl }
-
 -- one line more
 pub Wrote-line : (a b c : Option (List ℕ)) (s t u v : Session) (front part : List ℕ) → Wrote a b s t front → ((more : List ℕ) → expected t (part ++ 10 ∷ more) ≡ expected u more) → Wrote b c u v [] → Wrote a c s v (front ++ (part ++ 10 ∷ []))
 Wrote-line a b c s t u v front part first line last = record {

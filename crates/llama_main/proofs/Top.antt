@@ -1,5 +1,5 @@
 -- What a run says, whether its words were in the grammar or not.
-use Rattle.std.proofs.Common.{◌≡◌, ℕ, List, [], refl, sym, ap, subst, ◌∙◌, Option, Some, None, ◌⊎◌, inl, inr}
+use Rattle.std.proofs.Common.{◌≡◌, ℕ, List, [], refl, sym, subst, ◌∙◌, Option, Some, None, ◌⊎◌, inl, inr}
 use Rattle.std.specs.Prelude.{IfSome, IsSome, MatchOption}
 use Rattle.std.proofs.lemmas.Bool.{false≢true}
 use Rattle.lama_model.specs.Opening.{empty_opening}
@@ -142,15 +142,6 @@ fits_journal l l' w w' journal statuses.TooManyLines given taken gave took fits 
 -- the journal of a run whose status names the script's end is that of what was read
 pub ran_journal : (l l' w w' : Option (List ℕ)) (journal : List Entry) (status : Status) → RanWith l l' w w' journal status → IsSome (end_of status) → Exchanges l l' w w' (λ given taken. journal ≡ journal_of empty_opening given)
 ran_journal l l' w w' journal status ran some = fits_journal l l' w w' journal status ran.given ran.taken ran.gave ran.took ran.fits some
-
--- refused words leave no book
-pub refused_end : (w w' : Option (List ℕ)) (status : Status) → AreRefused w w' status → end_of status ≡ None
-refused_end w w' status (inl h) = ap end_of h.0
-refused_end w w' status (inr h) = by h.3
-  where
-    by : (status ≡ statuses.WriteFault) ⊎ (status ≡ statuses.NoMemory) → end_of status ≡ None
-    by (inl is) = ap end_of is
-    by (inr is) = ap end_of is
 
 -- the book that a session leaves is that of its run
 pub has_book : (l l' w w' : Option (List ℕ)) (journal : List Entry) (status : Status) (book : Option Book) → RanWith l l' w w' journal status → MatchOption book (end_of status ≡ None) (λ b. IsSome (end_of status) × (b.journal ≡ journal) × IsBookOf empty_opening b) → HasBook l l' w w' status book

@@ -1,7 +1,7 @@
 use Rattle.std.proofs.Common.{rules, ◌≡◌, ◌∙◌, ◌+◌, List, [], ◌∷◌, ◌++◌, ap, arith, length, slice_set, subst, sym, ℕ, Some}
 use Rattle.std.proofs.lemmas.Bool.Decides.{nat_tests}
 use Rattle.lama_bfs.specs.Frontier.{IsRound}
-use Rattle.lama_bfs.proofs.Rounds.{round-of, of-round, first-round, next-round, level-below, last-round, empty-is}
+use Rattle.lama_bfs.proofs.Rounds.{first-round, next-round, level-below, last-round, empty-is}
 use Rattle.lama_bfs.proofs.Seen.{seen-first}
 use Rattle.lama_bfs.proofs.breadth_first.levels.Goals as goal
 
@@ -13,7 +13,7 @@ loop-alloc-init g c =
     let found = slice_set c.in_ok-levels.levels.items s (Some 0) in
     record {
       round = subst (λ (front : List ℕ). IsRound rows s 0 found front) (sym (c.in_ok-put.ensures ∙ ap (λ l. l ++ s ∷ []) c.new-next.ensures))
-          (of-round rows s 0 found (s ∷ []) (first-round rows s found (search rules) c.requires.source));
+          (first-round rows s found (search rules) c.requires.source);
       seen = seen-first n s c.in_ok-seen.seen.items c.in_ok-levels.levels.items (search rules) (search rules);
       flat = tt;
     }
@@ -26,7 +26,7 @@ overflow_add-level g c =
     let h = c.in_ok-level.ensures in
     let found = c.follow.new.levels.items in
     let front = c.follow.new.self.next in
-    let below = level-below rows s n found front (round-of rows s n found front h.round) h.some in
+    let below = level-below rows s n found front h.round h.some in
     omega (arith, below, c.requires.vertices)
 
 pub loop-alloc-smaller : goal.loop-alloc-smaller
@@ -37,7 +37,7 @@ loop-alloc-smaller g c =
     let h = c.in_ok-level.ensures in
     let found = c.follow.new.levels.items in
     let front = c.follow.new.self.next in
-    let below = level-below rows s n found front (round-of rows s n found front h.round) h.some in
+    let below = level-below rows s n found front h.round h.some in
     let on = h.on in
     omega (arith, below, on)
 
@@ -53,8 +53,7 @@ loop-alloc-preserved g c =
     record {
       seen = c.in_ok-next_level.ensures.seen;
       flat = c.in_ok-next_level.ensures.flat;
-      round = of-round rows s (n + 1) found' front'
-          (next-round rows s n found front (round-of rows s n found front c.in_ok-level.ensures.round) found' front' c.in_ok-next_level.ensures.levels);
+      round = next-round rows s n found front c.in_ok-level.ensures.round found' front' c.in_ok-next_level.ensures.levels;
     }
 
 pub returns : goal.returns
@@ -64,4 +63,4 @@ returns g c =
     let l = c.loop-alloc in
     let none : length l.search.next ≡ 0 = grind (arith, nat_tests, c.len.ensures, c.loop-alloc-test.false) in
     let round = subst (λ (front : List ℕ). IsRound rows s l.level l.levels.items front) (empty-is l.search.next none) l.invariant.round in
-    last-round rows s l.level l.levels.items (round-of rows s l.level l.levels.items [] round)
+    last-round rows s l.level l.levels.items round

@@ -3,7 +3,7 @@ use Rattle.std.proofs.lemmas.Bool.Decides.{nat_tests}
 use Rattle.std.proofs.lemmas.List.{length-map}
 use Rattle.std.specs.Prelude.{is_some}
 use Rattle.lama_bfs.specs.Frontier.{is_new, is_unseen, IsRound}
-use Rattle.lama_bfs.proofs.Rounds.{Round, round-of, of-round, next-of-one, level-below, one-is}
+use Rattle.lama_bfs.proofs.Rounds.{next-of-one, level-below, one-is}
 use Rattle.lama_bfs.proofs.Seen.{seen-one, unseen-new}
 use Rattle.lama_bfs.proofs.frontier.Search.follow.Goals as goal
 
@@ -14,7 +14,7 @@ loop-v-init g c =
     let one : length next ≡ 1 = grind (arith, nat_tests, c.len.ensures, c.if-len-ne1.false) in
     let front : next ≡ slice_index c.as_slice.result.now 0 ∷ [] = one-is next one ∙ ap (λ (l : List ℕ). slice_index l 0 ∷ []) (sym c.as_slice.ensures) in
     record {
-      round = subst (λ (front : List ℕ). Round rows c.args.source c.args.from c.args.levels.now.items front) front (round-of rows c.args.source c.args.from c.args.levels.now.items next c.requires.round);
+      round = subst (λ (front : List ℕ). IsRound rows c.args.source c.args.from c.args.levels.now.items front) front c.requires.round;
       seen = c.requires.seen;
       on = omega arith;
     }
@@ -57,4 +57,4 @@ returns-clause-round g c =
     let rows = g.R.Rows.rows c.args.rows.now in
     let l = c.loop-v in
     subst (λ (front : List ℕ). IsRound rows c.args.source l.level l.levels.items front) (sym (c.in_ok-put.ensures ∙ ap (λ (vs : List ℕ). vs ++ l.u ∷ []) c.clear.ensures))
-    (of-round rows c.args.source l.level l.levels.items (l.u ∷ []) l.invariant.round)
+    l.invariant.round
