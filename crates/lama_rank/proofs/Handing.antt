@@ -16,15 +16,6 @@ use Rattle.lama_model.specs.Ranks.{rank_of_sum}
 pub to-append : (start end : ℕ) (es fs : List (ℕ × ℕ)) → edges_to start end (es ++ fs) ≡ edges_to start end es ++ edges_to start end fs
 to-append start end es fs = filter-append (λ (e : ℕ × ℕ). nat_le start e.1 && nat_lt e.1 end) es fs
 
--- to all of them
-pub to-all : (n : ℕ) (es : List (ℕ × ℕ)) → All (λ e. (e.0 < n) × (e.1 < n)) es → edges_to 0 n es ≡ es
-to-all n [] below = refl
-to-all n (e ∷ es) below =
-    let here = (All-head (λ (e : ℕ × ℕ). (e.0 < n) × (e.1 < n)) e es below).1 in
-    let test : (nat_le 0 e.1 && nat_lt e.1 n) ≡ true = grind (arith, nat_tests, here) in
-    ap (λ b. cond b (e ∷ edges_to 0 n es) (edges_to 0 n es)) test
-    ∙ ap (λ l. e ∷ l) (to-all n es (All-tail (λ (e : ℕ × ℕ). (e.0 < n) × (e.1 < n)) e es below))
-
 module _ (start end : ℕ) where
   -- those to one vertex of a piece are all that lead to it
   filter-part : (v : ℕ) → start ≤ v → v < end → (es : List (ℕ × ℕ)) → filter (λ e. e.1 == v) (edges_to start end es) ≡ filter (λ e. e.1 == v) es

@@ -10,6 +10,9 @@ use lama_model::Rows;
 use rayon::prelude::*;
 use std::thread::Threads;
 
+// Fewer vertices are not worth a thread: to count them takes no longer than to start one.
+const LEAST_PIECE: usize = 65_536;
+
 /// The totals of the out-degrees of a graph.
 #[derive(Clone, Copy, Debug, PartialEq, Eq)]
 pub struct Totals {
@@ -23,8 +26,8 @@ pub struct Totals {
     pub sinks: u32,
 }
 
-/// The totals of a graph's out-degrees, counted in as many threads as there are processors where there are many vertices.
-/// It costs the vertices, and can't be refused.
+/// The totals of a graph's out-degrees, counted in threads where there are many vertices, each of them for no fewer than
+/// 65,536. It costs the vertices, and can't be refused.
 pub fn degrees<T: Threads + Sync, R: Rows + Sync>(rt: &T, rows: &R) -> Totals
 where
     R::At: Send,
@@ -37,6 +40,7 @@ where
 {
     (0..rows.count())
         .into_par_iter()
+        .with_min_len(LEAST_PIECE)
         .map(
             |v: u32| -> Totals
                 requires { v < length (R.rows rows.now) }
