@@ -19,3 +19,6 @@ pub mod RankLaw
 pub mod EdgePairs
 pub mod GraphSteps
 pub mod PassLemmas
+pub mod RouteLemmas
+pub mod DistanceLaw
+pub mod CertificateLaw

@@ -4,6 +4,7 @@ pub mod Levels
 pub mod Labels
 pub mod Degrees
 pub mod Ranks
+pub mod Distances
 pub mod Change
 pub mod Bounds
 pub mod Fits

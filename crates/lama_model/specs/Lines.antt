@@ -1,9 +1,11 @@
 -- The lines that a script's commands print. Each ends with a line feed, and has one blank between two words.
 use Rattle.std.specs.Prelude.{ℕ, suc, ◌==◌, max, nat_eq, Bool, true, false, List, [], ◌∷◌, ◌++◌, length, map, fold, sum, codes, decimal, Option, None, Some, slice_index}
 use Rattle.std.specs.List.{flat_map, filter_map, count_by}
+use Rattle.std.specs.Option.{option_map}
 use Rattle.std.specs.Set.{distinct_count}
 use Rattle.lama_model.specs.Row.{edges_in}
 use Rattle.lama_model.specs.Levels.{first_from}
+use Rattle.lama_model.specs.declared.reach.Reach.{Reach}
 use Rattle.lama_model.specs.Script.{End}
 use Rattle.lama_model.specs.Script.End.{Whole, BadAt, TooMany}
 use Rattle.lama_model.specs.declared.calls.Write.TheVariants.{Vertices}
@@ -121,6 +123,22 @@ ranks_text k rounds ranks false = codes "rank " ++ decimal k ++ codes " " ++ dec
 ranks_text k rounds ranks true =
     codes "rank " ++ decimal k ++ codes " " ++ decimal rounds ++ codes " sum " ++ decimal (sum ranks) ++ codes " "
     ++ number_text (first_greatest ranks) ++ codes " " ++ decimal (greatest ranks) ++ codes "\n"
+
+-- a distance's sum, its edges and the parent, or a dash where there is none
+abbrev pub reach_text : Option Reach → List ℕ
+reach_text None = codes "-"
+reach_text (Some r) = decimal r.sum ++ codes " " ++ decimal r.hops ++ codes " " ++ decimal r.parent
+
+-- the sums of the distances that there are
+abbrev pub found_sums : List (Option Reach) → List ℕ
+found_sums reach = filter_map (λ r. option_map (λ (q : Reach). q.sum) r) reach
+
+-- the distances from s in the snapshot k, a vertex a line, or how many vertices are reached, their greatest sum and all sums together
+unfoldable pub distances_text : ℕ → ℕ → List (Option Reach) → Bool → List ℕ
+distances_text k s reach false = codes "dist " ++ decimal k ++ codes " " ++ decimal s ++ codes "\n" ++ vertex_lines reach_text 0 reach
+distances_text k s reach true =
+    codes "dist " ++ decimal k ++ codes " " ++ decimal s ++ codes " sum " ++ decimal (length (found_sums reach)) ++ codes " "
+    ++ decimal (greatest (found_sums reach)) ++ codes " " ++ decimal (sum (found_sums reach)) ++ codes "\n"
 
 -- the last line, for a run whose journal has that many entries
 unfoldable pub last_line : ℕ → End → List ℕ

@@ -6,7 +6,7 @@ use Rattle.lama_model.specs.declared.calls.Write.TheVariants.{Vertices, Add, Rem
 use Rattle.lama_model.specs.declared.commands.Command.{Command}
 use Rattle.lama_model.specs.declared.commands.Command.TheVariants.{Write as Writes, Checkpoint as Checkpoints, Merge as Merges, Retire as Retires, Read as Reads}
 use Rattle.lama_model.specs.declared.commands.Read.{Read}
-use Rattle.lama_model.specs.declared.commands.Read.TheVariants.{Row, Edges, Degrees, Bfs, Labels, Rank, AsOf}
+use Rattle.lama_model.specs.declared.commands.Read.TheVariants.{Row, Edges, Degrees, Bfs, Labels, Rank, Dist, AsOf}
 
 abbrev pub is_line_feed : ℕ → Bool
 is_line_feed b = b == 10
@@ -144,6 +144,14 @@ abbrev pub rank_read : List (List ℕ) → Option Read
 rank_read [] = None
 rank_read (rounds ∷ args) = rank_of (sum_of args) (number rounds)
 
+-- dist S, where S is a number
+abbrev pub dist_of : Option Bool → Option ℕ → Option Read
+dist_of sum s = option_and_then (λ sum. option_map (λ s. Dist s sum) s) sum
+
+abbrev pub dist_read : List (List ℕ) → Option Read
+dist_read [] = None
+dist_read (s ∷ args) = dist_of (sum_of args) (number s)
+
 -- asof J V, where both are numbers
 abbrev pub as_of_numbers : Option ℕ → Option ℕ → Option Read
 as_of_numbers j v = option_and_then (λ j. option_map (λ v. AsOf j v) v) j
@@ -163,8 +171,9 @@ read_of word args =
     else (if bytes_eq word (codes "labels") then labels_read args
     else (if bytes_eq word (codes "degrees") then degrees_read args
     else (if bytes_eq word (codes "rank") then rank_read args
+    else (if bytes_eq word (codes "dist") then dist_read args
     else (if bytes_eq word (codes "asof") then as_of_read args
-    else None))))))
+    else None)))))))
 
 -- what stands behind an at sign at the front of a word
 abbrev pub behind_at : List ℕ → Option (List ℕ)

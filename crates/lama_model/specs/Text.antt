@@ -6,18 +6,19 @@ use Rattle.lama_model.specs.Opening.{Opening}
 use Rattle.lama_model.specs.Journal.{reply, newest, graph, floor_at}
 use Rattle.lama_model.specs.Script.{Item, Script, script}
 use Rattle.lama_model.specs.Script.Item.{One}
-use Rattle.lama_model.specs.Lines.{reply_line, refusal_line, row_line, as_of_line, edges_lines, greatest, degrees_line, levels_text, labels_text, ranks_text, last_line}
+use Rattle.lama_model.specs.Lines.{reply_line, refusal_line, row_line, as_of_line, edges_lines, greatest, degrees_line, levels_text, labels_text, ranks_text, distances_text, last_line}
 use Rattle.lama_model.specs.Levels.{levels}
 use Rattle.lama_model.specs.Labels.{labels}
 use Rattle.lama_model.specs.Degrees.{out_degrees, count_sinks}
 use Rattle.lama_model.specs.Ranks.{ranks}
+use Rattle.lama_model.specs.Distances.{distances}
 use Rattle.lama_model.specs.declared.calls.Call.{Call}
 use Rattle.lama_model.specs.declared.calls.Call.TheVariants.{Write as WriteCall, Checkpoint, Look, LookAt, Install, Retire}
 use Rattle.lama_model.specs.declared.calls.Entry.{Entry}
 use Rattle.lama_model.specs.declared.commands.Command.{Command}
 use Rattle.lama_model.specs.declared.commands.Command.TheVariants.{Write as Writes, Checkpoint as Checkpoints, Merge as Merges, Retire as Retires, Read as Reads}
 use Rattle.lama_model.specs.declared.commands.Read.{Read}
-use Rattle.lama_model.specs.declared.commands.Read.TheVariants.{Row, Edges, Degrees, Bfs, Labels, Rank, AsOf}
+use Rattle.lama_model.specs.declared.commands.Read.TheVariants.{Row, Edges, Degrees, Bfs, Labels, Rank, Dist, AsOf}
 use Rattle.lama_model.specs.declared.answers.Reply.{Reply}
 use Rattle.lama_model.specs.declared.answers.Reply.TheVariants.{Accepted, Count, Snapshot, Kept, Refused}
 use Rattle.lama_model.specs.declared.answers.Refusal.TheVariants.{UnknownVertex, NoSnapshot}
@@ -50,6 +51,7 @@ read_lines graphs floor k (Bfs s sum) = if nat_lt s (graphs k).count then levels
 read_lines graphs floor k (Labels sum) = labels_text k (labels (graphs k)) sum
 read_lines graphs floor k Degrees = degrees_line k (graphs k).count (length (graphs k).edges) (greatest (out_degrees (graphs k))) (count_sinks (graphs k))
 read_lines graphs floor k (Rank rounds sum) = ranks_text k rounds (ranks (graphs k) rounds) sum
+read_lines graphs floor k (Dist s sum) = if nat_lt s (graphs k).count then distances_text k s (distances (graphs k) s) sum else refusal_line (UnknownVertex s (graphs k).count)
 -- only the graphs from the floor to the snapshot's own are told
 read_lines graphs floor k (AsOf j v) =
     if nat_lt j floor || nat_lt k j then refusal_line (NoSnapshot j floor k)

@@ -17,6 +17,8 @@ pub enum Read {
     Labels { sum: bool },
     /// The PageRank of each vertex after so many rounds, or, where `sum` is true, all of it and where it is greatest.
     Rank { rounds: u32, sum: bool },
+    /// What the cheapest walk from the vertex `s` to each vertex costs, or, where `sum` is true, what they cost in all.
+    Dist { s: u32, sum: bool },
     /// The targets of the row of `v` in the graph of the number `j`.
     AsOf { j: u32, v: u32 },
 }

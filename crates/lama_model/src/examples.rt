@@ -54,6 +54,19 @@ pub fn analyses()
         ≡ codes "vertices 5\nsnapshot 1\ndegrees 1 5 4 2 2\ndegrees 0 0 0 0 0\nrank 0 0 sum 0 - 0\nrank 0 3\nbad line 11\n" }
 {}
 
+/// What the cheapest walks cost, with how many edges and which vertex before each, or summed up.
+pub fn cheapest_walks()
+    // Of two walks of one sum the one with fewer edges counts.
+    ensures hours { text empty_opening (codes "vertices 4\nadd 0 1 5\nadd 0 2 1\nadd 2 1 4\nadd 1 3 0\ncheckpoint\ndist 0\ndist 0 sum\n")
+        ≡ codes "vertices 4\nsnapshot 1\ndist 1 0\n0 0 0 0\n1 5 1 0\n2 1 1 0\n3 5 2 1\ndist 1 0 sum 4 5 11\nend 8\n" }
+    // The lightest of parallel edges counts, and of two vertices that lead to one the lesser is its parent.
+    ensures parents { text empty_opening (codes "vertices 5\nadd 0 2 2\nadd 0 2 1\nadd 0 1 1\nadd 2 3 3\nadd 1 3 3\nadd 3 3 0\ncheckpoint\n@0 dist 0\ndist 5\ndist 0\n")
+        ≡ codes "vertices 5\nsnapshot 1\nunknown vertex 0 of 0\nunknown vertex 5 of 5\ndist 1 0\n0 0 0 0\n1 1 1 0\n2 1 1 0\n3 4 2 1\n4 -\nend 11\n" }
+    // A sum may be greater than any weight.
+    ensures wide { text empty_opening (codes "vertices 4\nadd 0 1 4294967295\nadd 1 2 4294967295\ncheckpoint\ndist 0\n")
+        ≡ codes "vertices 4\nsnapshot 1\ndist 1 0\n0 0 0 0\n1 4294967295 1 0\n2 8589934590 2 1\n3 -\nend 5\n" }
+{}
+
 /// What is told of earlier graphs, and what a retirement lets go.
 pub fn earlier_graphs()
     // An edge that was deleted is in the graphs before, and each snapshot tells those up to its own number.

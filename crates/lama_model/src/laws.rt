@@ -1,6 +1,6 @@
 //! Laws of the definitions alone, for every opening and every journal.
 
-ghost use Rattle.std.specs.Prelude.{◌≡◌, ◌+◌, ◌*◌, ◌<◌, ◌≤◌, ◌++◌, [], ◌∷◌, ℕ, List, drop, length, map, sum};
+ghost use Rattle.std.specs.Prelude.{◌≡◌, ◌+◌, ◌*◌, ◌<◌, ◌≤◌, ◌++◌, [], ◌∷◌, ℕ, List, Option, None, Some, drop, length, map, sum};
 ghost use Rattle.std.specs.List.{range_with_len};
 ghost use Rattle.lama_model.specs.Graph.{Graph, IsGraph};
 ghost use Rattle.lama_model.specs.Row.{row, AreSame};
@@ -8,6 +8,8 @@ ghost use Rattle.lama_model.specs.Levels.{AreLevels, levels};
 ghost use Rattle.lama_model.specs.Labels.{AreLabels, AreFirst, labels};
 ghost use Rattle.lama_model.specs.Degrees.{out_degrees};
 ghost use Rattle.lama_model.specs.Ranks.{ranks};
+ghost use Rattle.lama_model.specs.Distances.{Cost, HasRoute, IsDistance, AreReached, IsCertified, LeadsBelow, cost_of, reach_at, distances};
+ghost use Rattle.lama_model.specs.declared.reach.Reach.{Reach};
 ghost use Rattle.lama_model.specs.Change.{change_between, graph_after, row_after, row_through};
 ghost use Rattle.lama_model.specs.Opening.{Opening, IsOpening, first_number, last_number};
 ghost use Rattle.lama_model.specs.Journal.{begun, standing, newest, oldest, floor_at, graph, change, cut};
@@ -90,6 +92,27 @@ pub fn ranks_are_of_rows()
     ensures ranks { (g h : Graph) (i : ℕ) → IsGraph g → IsGraph h → AreSame g h → ranks g i ≡ ranks h i }
     ensures degrees { (g h : Graph) → AreSame g h → out_degrees g ≡ out_degrees h }
     ensures edges { (g h : Graph) → IsGraph g → IsGraph h → AreSame g h → length g.edges ≡ length h.edges }
+{}
+
+/// The distance of a vertex is the least cost of a walk to it, with the least vertex before it on such a walk, and there is
+/// none where no walk leads to it. No other answer says so.
+pub fn distances_are_least_costs()
+    ensures are { (g : Graph) (s : ℕ) → IsGraph g → s < g.count → AreReached g s (distances g s) }
+    ensures only { (g : Graph) (s : ℕ) (reach : List (Option Reach)) → IsGraph g → s < g.count → AreReached g s reach → reach ≡ distances g s }
+{}
+
+/// An answer that meets the certificate has the distances: what it says that a vertex costs is the least cost of a walk to
+/// it, and where it says nothing no walk leads there.
+pub fn certificates_tell_distances()
+    ensures told { (rows : ℕ → List (ℕ × ℕ)) (count s v : ℕ) (reach : List (Option Reach)) (r : Reach) → LeadsBelow rows count → s < count →
+        IsCertified rows count s reach → v < count → reach_at reach v ≡ Some r → IsDistance rows s v (cost_of r) }
+    ensures untold { (rows : ℕ → List (ℕ × ℕ)) (count s v : ℕ) (reach : List (Option Reach)) (c : Cost) → LeadsBelow rows count → s < count →
+        IsCertified rows count s reach → v < count → reach_at reach v ≡ None → ¬ HasRoute rows s v c }
+{}
+
+/// Graphs with the same rows have the same distances.
+pub fn distances_are_of_rows()
+    ensures { (g h : Graph) (s : ℕ) → AreSame g h → distances g s ≡ distances h s }
 {}
 
 /// A caller who is alone has made each call that the journal has from the start on.

@@ -13,6 +13,7 @@ pub mod edge_pairs;
 pub mod examples;
 pub mod laws;
 pub mod plain_rows;
+pub mod reach;
 
 pub use adjacency::Rows;
 pub use answers::{Refusal, Reply};
@@ -20,3 +21,4 @@ pub use calls::{Call, Entry, Write};
 pub use commands::{Command, Read};
 pub use edge_pairs::edges_between;
 pub use plain_rows::PlainRows;
+pub use reach::Reach;

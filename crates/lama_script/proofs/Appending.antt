@@ -1,7 +1,8 @@
 -- Texts that are appended piece by piece.
 use Rattle.std.proofs.Common.{◌≡◌, sym, ap, ◌∙◌, ℕ, List, ◌++◌, length, sum, true, false, Option, Result, Ok, Err, OnOk, append_assoc, codes, decimal}
 use Rattle.lama_model.specs.Row.{edges_in}
-use Rattle.lama_model.specs.Lines.{refusal_line, edges_lines, edge_lines, levels_text, labels_text, vertex_lines, number_text, found_levels, greatest, first_greatest, count_labels, most_with_one, degrees_line, ranks_text}
+use Rattle.lama_model.specs.Lines.{refusal_line, edges_lines, edge_lines, levels_text, labels_text, vertex_lines, number_text, found_levels, greatest, first_greatest, count_labels, most_with_one, degrees_line, ranks_text, found_sums, distances_text}
+use Rattle.lama_model.specs.declared.reach.Reach.{Reach}
 use Rattle.lama_model.specs.declared.answers.Refusal.TheVariants.{UnknownVertex, NoSnapshot}
 
 -- a piece after what was appended before
@@ -75,3 +76,11 @@ pub rank_sum-pieces : (k rounds : ℕ) (ranks : List ℕ) → ranks_text k round
     ≡ (((codes "rank " ++ decimal k) ++ (codes " " ++ decimal rounds)) ++ (codes " sum " ++ decimal (sum ranks))) ++ (codes " " ++ number_text (first_greatest ranks) ++ codes " " ++ decimal (greatest ranks) ++ codes "\n")
 unfolding ranks_text
 rank_sum-pieces k rounds ranks = in_fours (codes "rank ") (decimal k) (codes " ") (decimal rounds) (codes " sum ") (decimal (sum ranks)) (codes " ") (number_text (first_greatest ranks)) (codes " ") (decimal (greatest ranks)) (codes "\n")
+
+in_sixes : (a b c d e f g h i j : List ℕ) → a ++ b ++ c ++ d ++ e ++ f ++ g ++ h ++ g ++ i ++ j ≡ (((((a ++ b) ++ (c ++ d)) ++ (e ++ f)) ++ (g ++ h)) ++ (g ++ i)) ++ j
+in_sixes a b c d e f g h i j = simp append_assoc
+
+pub distance_sum-pieces : (k s : ℕ) (reach : List (Option Reach)) → distances_text k s reach true
+    ≡ (((((codes "dist " ++ decimal k) ++ (codes " " ++ decimal s)) ++ (codes " sum " ++ decimal (length (found_sums reach)))) ++ (codes " " ++ decimal (greatest (found_sums reach)))) ++ (codes " " ++ decimal (sum (found_sums reach)))) ++ codes "\n"
+unfolding distances_text
+distance_sum-pieces k s reach = in_sixes (codes "dist ") (decimal k) (codes " ") (decimal s) (codes " sum ") (decimal (length (found_sums reach))) (codes " ") (decimal (greatest (found_sums reach))) (decimal (sum (found_sums reach))) (codes "\n")

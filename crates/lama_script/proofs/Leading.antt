@@ -2,7 +2,6 @@
 use Rattle.std.proofs.Common.{◌≡◌, ◌∙◌, ℕ, ◌+◌, ◌<◌, ◌≤◌, true, List, length, take, drop, get_or, Option, None, Some, sym, ap, arith}
 use Rattle.std.specs.Prelude.{⊤, MatchOption}
 use Rattle.std.specs.List.{list_all, fold, position_or_len}
-use Rattle.std.proofs.lemmas.Bool.Decides.{nat_tests}
 use Rattle.std.proofs.lemmas.List.{drop_all, drop_more, length-take}
 use Rattle.lama_model.specs.Script.{number, is_blank, is_digit}
 use Rattle.lama_script.specs.Numbers.{IsLeading}

@@ -2,7 +2,7 @@
 
 ghost use Rattle.std.specs.Prelude.{◌≡◌, ◌<◌, ◌^◌, [], ◌∷◌, ⊤, not, true, MatchOption, None, Some, IsTrue, ◌↔◌};
 ghost use Rattle.std.specs.List.{position};
-ghost use Rattle.lama_model.specs.Script.{words, number, vertices_command, add_command, del_command, weigh_command, checkpoint_command, merge_command, retire_command, row_read, edges_read, degrees_read, sum_of, bfs_read, labels_read, rank_read, as_of_read, read_of, behind_at, reading_of, command_of, meaning, without_return};
+ghost use Rattle.lama_model.specs.Script.{words, number, vertices_command, add_command, del_command, weigh_command, checkpoint_command, merge_command, retire_command, row_read, edges_read, degrees_read, sum_of, bfs_read, labels_read, rank_read, dist_read, as_of_read, read_of, behind_at, reading_of, command_of, meaning, without_return};
 ghost use Rattle.lama_model.specs.Script as grammar;
 ghost use Rattle.lama_script.specs.Numbers.{IsFirstNumber, IsLeading};
 ghost use Rattle.lama_script.specs.Parsing.{answer_to};
@@ -221,6 +221,8 @@ fn read(word: &[u8], args: &[u8]) -> Option<Read>
         degrees(args)
     } else if word == b"rank".as_slice() {
         rank(args)
+    } else if word == b"dist".as_slice() {
+        dist(args)
     } else if word == b"asof".as_slice() {
         as_of(args)
     } else {
@@ -357,6 +359,14 @@ fn rank(args: &[u8]) -> Option<Read>
     let sum = sum(args)?;
     let rounds = rounds?;
     (rounds <= MAX_ROUNDS).then_some(Read::Rank { rounds, sum })
+}
+
+fn dist(args: &[u8]) -> Option<Read>
+    ensures { result ≡ dist_read (words args.now) }
+{
+    let (source, args) = first_number(args)?;
+    let sum = sum(args)?;
+    Some(Read::Dist { s: source?, sum })
 }
 
 fn as_of(args: &[u8]) -> Option<Read>

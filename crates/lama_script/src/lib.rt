@@ -2,6 +2,7 @@
 #![tactic(auto)]
 
 mod analyses;
+mod distances;
 mod grammar;
 pub mod item;
 pub mod parser;
@@ -11,6 +12,7 @@ mod ranks;
 mod tests;
 
 pub use analyses::{print_labels, print_levels};
+pub use distances::print_dist;
 pub use grammar::number;
 pub use item::{Item, ScriptFault};
 pub use lama_model::{Command, Read};

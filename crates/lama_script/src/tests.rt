@@ -131,6 +131,30 @@ fn ranks_are_asked_for_after_at_most_a_hundred_rounds(rt: HostRuntime) {
     assert_eq!(rt; answer(b"degree"), BAD);
 }
 
+fn dist(at: Option<u32>, s: u32, sum: bool) -> Answer {
+    says(Command::Read {
+        at,
+        what: Read::Dist { s, sum },
+    })
+}
+
+#[test]
+fn distances_name_a_source(rt: HostRuntime) {
+    assert_eq!(rt; answer(b"dist 3"), dist(None, 3, false));
+    assert_eq!(rt; answer(b"@7\tdist 003 sum \r"), dist(Some(7), 3, true));
+    assert_eq!(rt;
+        answer(b"dist 4294967295"),
+        dist(None, 4_294_967_295, false)
+    );
+    assert_eq!(rt; answer(b"dist 4294967296"), BAD);
+    assert_eq!(rt; answer(b"dist"), BAD);
+    assert_eq!(rt; answer(b"dist sum"), BAD);
+    assert_eq!(rt; answer(b"dist 3 4"), BAD);
+    assert_eq!(rt; answer(b"dist 3 sum 4"), BAD);
+    assert_eq!(rt; answer(b"dist 3 sums"), BAD);
+    assert_eq!(rt; answer(b"dists 3"), BAD);
+}
+
 fn retire(k: u32) -> Answer {
     says(Command::Retire { k })
 }

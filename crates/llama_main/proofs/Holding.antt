@@ -1,5 +1,5 @@
 -- What a call on the store's book leaves, and what a look finds.
-use Rattle.std.proofs.Common.{◌≡◌, ◌≢◌, ◌∙◌, ℕ, ◌-◌, ◌≤◌, List, [], ◌∷◌, ◌++◌, length, get_or, refl, sym, ap, subst, arith, Option, Some, None}
+use Rattle.std.proofs.Common.{◌≡◌, ◌≢◌, ◌∙◌, ℕ, ◌-◌, ◌≤◌, List, [], ◌∷◌, ◌++◌, get_or, refl, sym, ap, subst, arith, Option, Some, None}
 use Rattle.std.specs.Prelude.{MatchOption}
 use Rattle.std.proofs.lemmas.List.Sums.{fold-append}
 use Rattle.lama_model.specs.Opening.{IsOpening, empty_opening}
@@ -10,7 +10,7 @@ use Rattle.lama_model.specs.declared.calls.Call.TheVariants.{Look, LookAt}
 use Rattle.lama_model.specs.declared.calls.Entry.{Entry}
 use Rattle.lama_model.specs.declared.answers.Reply.{Reply}
 use Rattle.lama_model.specs.declared.answers.Reply.TheVariants.{Snapshot}
-use Rattle.lama_model.proofs.StandingLemmas.{standing-push, is_standing}
+use Rattle.lama_model.proofs.StandingLemmas.{standing-push}
 use Rattle.lama_snapshot.specs.Snap.{Snap, no_snap}
 use Rattle.lama_book.specs.Book.{Book, last_snap, snap_at, newest_number}
 use Rattle.lama_book.specs.Relation.{IsSnapshotOf, IsBookOf}

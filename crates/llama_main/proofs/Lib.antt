@@ -4,6 +4,7 @@ pub mod Feeds
 pub mod Expectations
 pub mod LineMeanings
 pub mod Reading
+pub mod DistanceReading
 pub mod RankReading
 pub mod Sessions
 pub mod Runs

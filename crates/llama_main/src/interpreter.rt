@@ -6,7 +6,7 @@ ghost use Rattle.lama_model.specs.Journal.{graph_of};
 ghost use Rattle.lama_model.specs.Lines.{refusal_line};
 ghost use Rattle.lama_model.specs.declared.answers.Refusal.TheVariants.{UnknownVertex};
 ghost use Rattle.llama_main.specs.Words.{IsTeam};
-ghost use Rattle.lama_model.specs.declared.commands.Read.TheVariants.{Row, Edges, Degrees, Bfs, Labels, Rank, AsOf};
+ghost use Rattle.lama_model.specs.declared.commands.Read.TheVariants.{Row, Edges, Degrees, Bfs, Labels, Rank, Dist, AsOf};
 ghost use Rattle.llama_main.specs.Store.{held_by, AreOfGraph, IsTold};
 ghost use Rattle.llama_main.specs.Expected.{held_after, told_at, printed, expected_from};
 ghost use Rattle.llama_main.specs.Stop.{StopsAt, IsOfScript};
@@ -21,10 +21,11 @@ use lama_book::Looked;
 use lama_label::labels;
 use lama_model::{Refusal, Reply, Rows};
 use lama_pages::Steps;
+use lama_paths::distances;
 use lama_rank::{degrees, rank};
 use lama_script::{
-    Command, Item, Parser, Read, ScriptFault, print_asof, print_degrees, print_edges, print_labels,
-    print_levels, print_rank, print_reply, print_row,
+    Command, Item, Parser, Read, ScriptFault, print_asof, print_degrees, print_dist, print_edges,
+    print_labels, print_levels, print_rank, print_reply, print_row,
 };
 use lama_snapshot::{Snapshot, Targets};
 use std::alloc::{AllocError, Global};
@@ -186,6 +187,7 @@ impl Interpreter {
             Read::Labels { sum } => self.read_labels(team, snapshot, sum),
             Read::Degrees => self.read_degrees(team, snapshot),
             Read::Rank { rounds, sum } => self.read_ranks(team, snapshot, rounds, sum),
+            Read::Dist { s, sum } => self.read_distances(team, command, snapshot, s, sum),
             Read::AsOf { j, v } => self.read_as_of(team, command, snapshot, j, v),
         }
     }
@@ -329,6 +331,31 @@ impl Interpreter {
         )?;
         print_rank(&mut self.out, snapshot.number(), rounds, &found, sum)
     }
+
+    /// Reads how each vertex is reached from a vertex.
+    fn read_distances<R: Threads + Sync, G: Gate + Sync>(
+        &mut self,
+        team: &Team<R, G>,
+        command: &Command,
+        snapshot: &Snapshot,
+        s: u32,
+        sum: bool,
+    ) -> Result<(), AllocError>
+        requires { AreOfGraph snapshot.now.rows (graph_of empty_opening self.old.store.standing snapshot.now.number) }
+        ensures parser { self.new.parser ≡ self.old.parser }
+        ensures store { self.new.store ≡ self.old.store }
+        ensures printed { OnOk result (self.new.out.items ≡ self.old.out.items ++ told_at self.old.store snapshot.now.number (Dist s sum)) }
+        ensures err { OnErr result (self.new.out.items ≡ self.old.out.items) }
+    {
+        let count = snapshot.count();
+        if s < count {
+            let found = distances(team.alloc, snapshot, s)?;
+            print_dist(&mut self.out, snapshot.number(), s, &found, sum)
+        } else {
+            self.refuse_vertex(command, s, count)
+        }
+    }
+
     /// Reads the targets that the row of a vertex has in the graph of the number `j`.
     fn read_as_of<R: Threads + Sync, G: Gate + Sync>(
         &mut self,

@@ -174,6 +174,40 @@ fn merges_change_no_snapshot(rt: HostRuntime) -> Result<(), Fail> {
 }
 
 #[test]
+fn distances_are_told_of_each_snapshot(rt: HostRuntime) -> Result<(), Fail> {
+    let done: [(&[u8], &[u8]); 5] = [
+        (
+            b"vertices 4\nadd 0 1 5\nadd 0 2 1\nadd 2 1 4\nadd 1 3 0\ncheckpoint\ndist 0\ndist 0 sum\n",
+            b"vertices 4\nsnapshot 1\ndist 1 0\n0 0 0 0\n1 5 1 0\n2 1 1 0\n3 5 2 1\ndist 1 0 sum 4 5 11\nend 8\n",
+        ),
+        // The greatest weights in a row of three.
+        (
+            b"vertices 5\nadd 0 1 4294967295\nadd 1 2 4294967295\nadd 2 3 4294967295\ncheckpoint\ndist 0\n",
+            b"vertices 5\nsnapshot 1\ndist 1 0\n0 0 0 0\n1 4294967295 1 0\n2 8589934590 2 1\n3 12884901885 3 2\n4 -\nend 6\n",
+        ),
+        // A circle of edges that cost nothing.
+        (
+            b"vertices 3\nadd 0 1 0\nadd 1 2 0\nadd 2 0 0\ncheckpoint\ndist 0\n",
+            b"vertices 3\nsnapshot 1\ndist 1 0\n0 0 0 0\n1 0 1 0\n2 0 2 1\nend 6\n",
+        ),
+        // After a deletion, a new weight and a merge, and of an older snapshot.
+        (
+            b"vertices 4\nadd 0 1 5\nadd 1 2 5\nadd 0 2 20\ncheckpoint\ndel 0 1\nweigh 0 2 7\nadd 2 3 1\ncheckpoint\nmerge\ndist 0\n@1 dist 0 sum\ndist 0 sum\n",
+            b"vertices 4\nsnapshot 1\nsnapshot 2\nmerged 2\ndist 2 0\n0 0 0 0\n1 -\n2 7 1 0\n3 8 2 2\ndist 1 0 sum 3 10 15\ndist 2 0 sum 3 8 15\nend 14\n",
+        ),
+        // The snapshot is looked for before the vertex.
+        (
+            b"vertices 1\ncheckpoint\n@0 dist 0\ndist 9 sum\n@7 dist 9\ndist 0\ndist 0 sum\n",
+            b"vertices 1\nsnapshot 1\nunknown vertex 0 of 0\nunknown vertex 9 of 1\nno snapshot 7 of 0 1\ndist 1 0\n0 0 0 0\ndist 1 0 sum 1 0 0\nend 7\n",
+        ),
+    ];
+    for (script, text) in done {
+        gives(&rt, script, text, Status::Done)?;
+    }
+    Ok(())
+}
+
+#[test]
 fn earlier_rows_are_read_through_later_snapshots(rt: HostRuntime) -> Result<(), Fail> {
     let done: [(&[u8], &[u8]); 4] = [
         (

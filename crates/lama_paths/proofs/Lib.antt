@@ -1,0 +1,5 @@
+pub mod Bits
+pub mod Certified
+pub mod Searching
+pub mod Settling
+pub mod Found
