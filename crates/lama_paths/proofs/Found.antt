@@ -1,7 +1,6 @@
 -- Where the search begins and ends.
 use Rattle.std.proofs.Common.{◌≡◌, ◌≢◌, ◌∙◌, ℕ, ◌+◌, ◌-◌, ◌*◌, ◌^◌, ◌<◌, ◌≤◌, ◌⊎◌, inl, inr, List, [], ◌∷◌, length, get_or, replicate, Bool, true, false, Option, None, Some, refl, sym, ap, subst, arith, true≢false}
 use Rattle.std.specs.Prelude.{slice_set, Contains}
-use Rattle.std.specs.declared.cmp.Reverse.{Reverse}
 use Rattle.std.specs.List.Sorted.{IsPermutation}
 use Rattle.std.proofs.lemmas.Bool.{cases_eq, cases_lt}
 use Rattle.std.proofs.lemmas.List.{get_or-replicate, get_or_past, length-set, length-replicate, ext_get_or}
@@ -14,13 +13,12 @@ use Rattle.lama_model.specs.Distances.{LeadsBelow, IsCertified, further, cost_of
 use Rattle.lama_model.proofs.RowsOfGraph.{row-of-rows}
 use Rattle.lama_model.proofs.DistanceLaw.{reach-is, one-reach}
 use Rattle.lama_model.proofs.CertificateLaw.{some-one, HasLeastParents, reach-told}
-use Rattle.lama_paths.specs.declared.search.Offer.{Offer}
-use Rattle.lama_paths.specs.Search.{is_settled, settled_count, offer, IsRelaxed, IsKnown, none_left, IsBetween, work}
+use Rattle.lama_paths.specs.Search.{Bid, is_settled, settled_count, offer, IsRelaxed, IsKnown, none_left, IsBetween, work}
 use Rattle.lama_paths.proofs.Searching.{no_more-refl, contains-head, contains-cases, contains-none, reach-set, reach-other}
 use Rattle.lama_paths.proofs.Settling.{few-settled, one-settled}
 
 -- each vertex that is settled leaves less to do
-pub worked : (rows : List (List (ℕ × ℕ))) (settled : List Bool) (offers offers' : List (Reverse Offer)) (u : ℕ) → length settled ≡ length rows → u < length rows → is_settled settled u ≡ false → length offers' ≤ length offers + length (row_at rows u) → work rows (slice_set settled u true) offers' ≤ work rows settled offers
+pub worked : (rows : List (List (ℕ × ℕ))) (settled : List Bool) (offers offers' : List Bid) (u : ℕ) → length settled ≡ length rows → u < length rows → is_settled settled u ≡ false → length offers' ≤ length offers + length (row_at rows u) → work rows (slice_set settled u true) offers' ≤ work rows settled offers
 worked rows settled offers offers' u size lt not few =
     let one = one-settled settled u (omega (arith, size, lt)) not in
     let all = few-settled (slice_set settled u true) in
@@ -49,7 +47,7 @@ not-at n v = by (cases_lt v n)
     by (inr le) = get_or_past (replicate n false) v false (let e = length-replicate n false in omega (arith, le, e))
 
 -- only the source is reached, and waits
-pub started : (rows : List (List (ℕ × ℕ))) (s count : ℕ) (offers : List (Reverse Offer)) → length rows ≡ count → s < count → IsPermutation (offer (record { sum = 0; hops = 0 }) s ∷ []) offers →
+pub started : (rows : List (List (ℕ × ℕ))) (s count : ℕ) (offers : List Bid) → length rows ≡ count → s < count → IsPermutation (offer (record { sum = 0; hops = 0 }) s ∷ []) offers →
     IsBetween rows s (slice_set (replicate count None) s (Some (record { sum = 0; hops = 0; parent = s }))) (replicate count false) offers
 started rows s count offers many lt p = record {
   bound = record { sum = 0; hops = 0 };
@@ -88,14 +86,14 @@ started rows s count offers many lt p = record {
         by (inl e) = (e, some-one r (record { sum = 0; hops = 0; parent = s }) (sym is ∙ (ap (reach_at (slice_set (replicate count None) s (Some (record { sum = 0; hops = 0; parent = s })))) e ∙ here)))
         by (inr ne) = absurd (let e : None ≡ Some r = sym (reach-other (replicate count None) s v (Some (record { sum = 0; hops = 0; parent = s })) ne ∙ none-at count v) ∙ is in cc)
 
-    sole : (o : Reverse Offer) → Contains offers o → offer (record { sum = 0; hops = 0 }) s ≡ o
+    sole : (o : Bid) → Contains offers o → offer (record { sum = 0; hops = 0 }) s ≡ o
     sole o among = by (contains-cases (offer (record { sum = 0; hops = 0 }) s) o [] (Contains-permutation offers (offer (record { sum = 0; hops = 0 }) s ∷ []) o (IsPermutation-sym (offer (record { sum = 0; hops = 0 }) s ∷ []) offers p) among))
       where
         by : (offer (record { sum = 0; hops = 0 }) s ≡ o) ⊎ Contains [] o → offer (record { sum = 0; hops = 0 }) s ≡ o
         by (inl e) = e
         by (inr none) = absurd (contains-none o none)
 
-module _ (rows : List (List (ℕ × ℕ))) (s : ℕ) (reach : List (Option Reach)) (settled : List Bool) (offers : List (Reverse Offer)) (h : IsBetween rows s reach settled offers) (empty : length offers ≡ 0) (vertices : length rows ≤ 4194304) where
+module _ (rows : List (List (ℕ × ℕ))) (s : ℕ) (reach : List (Option Reach)) (settled : List Bool) (offers : List Bid) (h : IsBetween rows s reach settled offers) (empty : length offers ≡ 0) (vertices : length rows ≤ 4194304) where
   -- each vertex that is reached is settled
   all-settled : (v : ℕ) (r : Reach) → reach_at reach v ≡ Some r → is_settled settled v ≡ true
   all-settled v r is = by (is_settled settled v) refl

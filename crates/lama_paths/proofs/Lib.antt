@@ -3,3 +3,4 @@ pub mod Certified
 pub mod Searching
 pub mod Settling
 pub mod Found
+pub mod Told

@@ -1,7 +1,6 @@
 -- What each step of the search keeps.
 use Rattle.std.proofs.Common.{◌≡◌, ◌≢◌, ◌∙◌, ℕ, zero, suc, ◌+◌, ◌*◌, ◌<◌, ◌≤◌, ◌⊎◌, inl, inr, List, [], ◌∷◌, length, get_or, Bool, true, false, Option, None, Some, refl, sym, ap, subst, arith}
 use Rattle.std.specs.Prelude.{slice_set, Contains}
-use Rattle.std.specs.declared.cmp.Reverse.{Reverse}
 use Rattle.std.specs.List.Sorted.{IsPermutation}
 use Rattle.std.proofs.lemmas.Bool.{cases_eq}
 use Rattle.std.proofs.lemmas.List.{get_or-set_same, get_or-set_other, length-set}
@@ -11,8 +10,7 @@ use Rattle.lama_model.specs.Row.{row_at}
 use Rattle.lama_model.specs.Distances.{Cost, IsNoMore, HasParent, further, cost_of, reach_at}
 use Rattle.lama_model.proofs.RouteLemmas.{no_more-both, no_more-through}
 use Rattle.lama_model.proofs.CertificateLaw.{some-one}
-use Rattle.lama_paths.specs.declared.search.Offer.{Offer}
-use Rattle.lama_paths.specs.Search.{is_settled, settled_count, price, offer, IsRelaxed, IsKnown, left_of, IsAt}
+use Rattle.lama_paths.specs.Search.{Bid, is_settled, settled_count, price, offer, IsRelaxed, IsKnown, left_of, IsAt}
 
 pub no_more-refl : (a : Cost) → IsNoMore a a
 no_more-refl a = record { sums = omega arith; edges = λ e. omega arith }
@@ -54,7 +52,7 @@ reach-set reach v o lt = get_or-set_same reach v o None lt
 pub reach-other : (reach : List (Option Reach)) (v y : ℕ) (o : Option Reach) → y ≢ v → reach_at (slice_set reach v o) y ≡ reach_at reach y
 reach-other reach v y o ne = get_or-set_other reach v y o None ne
 
-module _ (rows : List (List (ℕ × ℕ))) (s u : ℕ) (from : Reach) (v w : ℕ) (edges : List (ℕ × ℕ)) (reach : List (Option Reach)) (settled : List Bool) (offers : List (Reverse Offer)) (h : IsAt rows s u from ((v, w) ∷ edges) reach settled offers) where
+module _ (rows : List (List (ℕ × ℕ))) (s u : ℕ) (from : Reach) (v w : ℕ) (edges : List (ℕ × ℕ)) (reach : List (Option Reach)) (settled : List Bool) (offers : List Bid) (h : IsAt rows s u from ((v, w) ∷ edges) reach settled offers) where
   abbrev b : Cost
   b = cost_of from
 
@@ -143,7 +141,7 @@ module _ (rows : List (List (ℕ × ℕ))) (s u : ℕ) (from : Reach) (v w : ℕ
             subst (P y) same (one y e)
         by (inr ne) = rest y r ne (sym (same-at y ne) ∙ is)
 
-    module _ (offers' : List (Reverse Offer)) (more : (o : Reverse Offer) → Contains offers o → Contains offers' o) (only : (o : Reverse Offer) → Contains offers' o → Contains offers o ⊎ (o ≡ offer (cost_of found) v)) (has : Contains offers' (offer (cost_of found) v)) where
+    module _ (offers' : List Bid) (more : (o : Bid) → Contains offers o → Contains offers' o) (only : (o : Bid) → Contains offers' o → Contains offers o ⊎ (o ≡ offer (cost_of found) v)) (has : Contains offers' (offer (cost_of found) v)) where
       short' : (y : ℕ) (r : Reach) → reach_at reach' y ≡ Some r → r.hops ≤ settled_count settled
       short' = new-at (λ y r. r.hops ≤ settled_count settled)
           (λ y e. let few = h.search.shorter u from h.done h.reached in let hops : found.hops ≡ from.hops + 1 = ap (λ (c : Cost). c.hops) cost in omega (arith, few, hops))
@@ -158,7 +156,7 @@ module _ (rows : List (List (ℕ × ℕ))) (s u : ℕ) (from : Reach) (v w : ℕ
           omega (arith, few, hops, sum, narrow))
           (λ y r ne is. h.search.sums y r is)
 
-      high' : (o : Reverse Offer) → Contains offers' o → IsNoMore b (price o)
+      high' : (o : Bid) → Contains offers' o → IsNoMore b (price o)
       high' o among = by (only o among)
         where
           by : Contains offers o ⊎ (o ≡ offer (cost_of found) v) → IsNoMore b (price o)
@@ -170,20 +168,20 @@ module _ (rows : List (List (ℕ × ℕ))) (s u : ℕ) (from : Reach) (v w : ℕ
           (λ y e not. subst (λ n. Contains offers' (offer (cost_of found) n)) (sym e) has)
           (λ y r ne is not. more (offer (cost_of r) y) (h.search.waits y r not is)) y r is not
 
-      known' : (o : Reverse Offer) → Contains offers' o → IsKnown (length rows) reach' o
+      known' : (o : Bid) → Contains offers' o → IsKnown (length rows) reach' o
       known' o among = by (only o among)
         where
-          old : IsKnown (length rows) reach o → (o.0.vertex ≡ v) ⊎ (o.0.vertex ≢ v) → IsKnown (length rows) reach' o
+          old : IsKnown (length rows) reach o → (o.vertex ≡ v) ⊎ (o.vertex ≢ v) → IsKnown (length rows) reach' o
           old k (inl e) = record {
             inside = k.inside;
             now = found;
             reached = ap (reach_at reach') e ∙ here;
             within = no_more-through (cost_of found) (cost_of k.now) (price o) (better k.now (ap (reach_at reach) (sym e) ∙ k.reached)).0 k.within;
           }
-          old k (inr ne) = record { inside = k.inside; now = k.now; reached = same-at o.0.vertex ne ∙ k.reached; within = k.within }
+          old k (inr ne) = record { inside = k.inside; now = k.now; reached = same-at o.vertex ne ∙ k.reached; within = k.within }
 
           by : Contains offers o ⊎ (o ≡ offer (cost_of found) v) → IsKnown (length rows) reach' o
-          by (inl there) = old (h.search.known o there) (cases_eq o.0.vertex v)
+          by (inl there) = old (h.search.known o there) (cases_eq o.vertex v)
           by (inr e) = subst (IsKnown (length rows) reach') (sym e) (record {
             inside = (let len = h.search.len in omega (arith, inside, len));
             now = found;
@@ -273,13 +271,13 @@ module _ (rows : List (List (ℕ × ℕ))) (s u : ℕ) (from : Reach) (v w : ℕ
       }
 
     -- with an offer more
-    pub offered : (offers' : List (Reverse Offer)) → IsPermutation (offer (cost_of found) v ∷ offers) offers' → IsAt rows s u from edges reach' settled offers'
+    pub offered : (offers' : List Bid) → IsPermutation (offer (cost_of found) v ∷ offers) offers' → IsAt rows s u from edges reach' settled offers'
     offered offers' p = changed offers'
         (λ o among. Contains-permutation (offer (cost_of found) v ∷ offers) offers' o p (contains-later (offer (cost_of found) v) o offers among))
         (λ o among. turned o (contains-cases (offer (cost_of found) v) o offers (Contains-permutation offers' (offer (cost_of found) v ∷ offers) o (IsPermutation-sym (offer (cost_of found) v ∷ offers) offers' p) among)))
         (Contains-permutation (offer (cost_of found) v ∷ offers) offers' (offer (cost_of found) v) p (contains-head (offer (cost_of found) v) offers))
       where
-        turned : (o : Reverse Offer) → (offer (cost_of found) v ≡ o) ⊎ Contains offers o → Contains offers o ⊎ (o ≡ offer (cost_of found) v)
+        turned : (o : Bid) → (offer (cost_of found) v ≡ o) ⊎ Contains offers o → Contains offers o ⊎ (o ≡ offer (cost_of found) v)
         turned o (inl e) = inr (sym e)
         turned o (inr there) = inl there
 
@@ -292,7 +290,7 @@ module _ (rows : List (List (ℕ × ℕ))) (s u : ℕ) (from : Reach) (v w : ℕ
         not-done false never = refl
 
 -- the same, with the values that a step leaves
-pub offered-made : (rows : List (List (ℕ × ℕ))) (s u : ℕ) (from : Reach) (v w : ℕ) (edges : List (ℕ × ℕ)) (reach after : List (Option Reach)) (settled settled' : List Bool) (offers offers' : List (Reverse Offer)) (found : Reach) →
+pub offered-made : (rows : List (List (ℕ × ℕ))) (s u : ℕ) (from : Reach) (v w : ℕ) (edges : List (ℕ × ℕ)) (reach after : List (Option Reach)) (settled settled' : List Bool) (offers offers' : List Bid) (found : Reach) →
     IsAt rows s u from ((v, w) ∷ edges) reach settled offers → v < length reach → w ≤ 18446744073709551615 → cost_of found ≡ further (cost_of from) w → found.parent ≡ u →
     ((r : Reach) → reach_at reach v ≡ Some r → IsNoMore (cost_of found) (cost_of r) × (cost_of found ≡ cost_of r → u ≤ r.parent)) →
     after ≡ slice_set reach v (Some found) → settled' ≡ settled → IsPermutation (offer (cost_of found) v ∷ offers) offers' → IsAt rows s u from edges after settled' offers'

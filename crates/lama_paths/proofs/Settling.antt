@@ -11,14 +11,14 @@ use Rattle.std.proofs.lemmas.Bool.{cases_eq, cases_lt}
 use Rattle.std.proofs.lemmas.Bool.Decides.{nat_tests}
 use Rattle.std.proofs.lemmas.List.{get_or-set_same, get_or-set_other, length-set}
 use Rattle.std.proofs.lemmas.List.Sums.{sum_by-set, sum_by-le}
-use Rattle.std.proofs.lemmas.List.Sorted.{Contains-permutation, IsPermutation-sym}
+use Rattle.std.proofs.lemmas.List.Sorted.{Contains-permutation, IsPermutation-sym, IsPermutation-map}
 use Rattle.lama_model.specs.declared.reach.Reach.{Reach}
 use Rattle.lama_model.specs.Row.{row_at}
 use Rattle.lama_model.specs.Distances.{Cost, IsNoMore, cost_of, reach_at}
 use Rattle.lama_model.proofs.RouteLemmas.{no_more-through}
 use Rattle.lama_model.proofs.CertificateLaw.{some-one}
 use Rattle.lama_paths.specs.declared.search.Offer.{Offer}
-use Rattle.lama_paths.specs.Search.{is_settled, settled_count, price, offer, IsRelaxed, IsReached, IsSearch, none_left, left_of, IsBetween, IsTaken, IsAt}
+use Rattle.lama_paths.specs.Search.{Bid, bid, bids, is_settled, settled_count, price, offer, IsRelaxed, IsReached, IsSearch, none_left, left_of, IsBetween, IsTaken, IsAt}
 use Rattle.lama_paths.proofs.Searching.{no_more-refl, contains-head, contains-later, contains-cases, contains-none}
 
 pub few-settled : (settled : List Bool) → settled_count settled ≤ length settled
@@ -37,7 +37,7 @@ one-settled settled u lt not =
     omega (arith, e, none)
 
 -- offers matter by what is among them
-pub search-along : (rows : List (List (ℕ × ℕ))) (s : ℕ) (b : Cost) (left : ℕ → ℕ × ℕ → Type 0) (reach : List (Option Reach)) (settled : List Bool) (offers offers' : List (Reverse Offer)) → ((o : Reverse Offer) → Contains offers o → Contains offers' o) → ((o : Reverse Offer) → Contains offers' o → Contains offers o) → IsSearch rows s b left reach settled offers → IsSearch rows s b left reach settled offers'
+pub search-along : (rows : List (List (ℕ × ℕ))) (s : ℕ) (b : Cost) (left : ℕ → ℕ × ℕ → Type 0) (reach : List (Option Reach)) (settled : List Bool) (offers offers' : List Bid) → ((o : Bid) → Contains offers o → Contains offers' o) → ((o : Bid) → Contains offers' o → Contains offers o) → IsSearch rows s b left reach settled offers → IsSearch rows s b left reach settled offers'
 search-along rows s b left reach settled offers offers' to from h = record {
   len = h.len;
   size = h.size;
@@ -54,7 +54,7 @@ search-along rows s b left reach settled offers offers' to from h = record {
   relaxed = h.relaxed;
 }
 
-module _ (rows : List (List (ℕ × ℕ))) (s u : ℕ) (reach : List (Option Reach)) (settled : List Bool) (offers : List (Reverse Offer)) where
+module _ (rows : List (List (ℕ × ℕ))) (s u : ℕ) (reach : List (Option Reach)) (settled : List Bool) (offers : List Bid) where
   -- an offer for a vertex that is settled changes nothing
   pub skipped : IsTaken rows s u reach settled offers → is_settled settled u ≡ true → IsBetween rows s reach settled offers
   skipped h done = record {
@@ -78,7 +78,7 @@ module _ (rows : List (List (ℕ × ℕ))) (s u : ℕ) (reach : List (Option Rea
     where
       by : (v : ℕ) (r : Reach) → is_settled settled v ≡ false → (h.taken ≡ offer (cost_of r) v) ⊎ Contains offers (offer (cost_of r) v) → Contains offers (offer (cost_of r) v)
       by v r not (inl e) =
-          let same : u ≡ v = sym h.vertex ∙ ap (λ (o : Reverse Offer). o.0.vertex) e in
+          let same : u ≡ v = sym h.vertex ∙ ap (λ (o : Bid). o.vertex) e in
           absurd (true≢false (sym done ∙ (ap (is_settled settled) same ∙ not)))
       by v r not (inr there) = there
 
@@ -138,7 +138,7 @@ module _ (rows : List (List (ℕ × ℕ))) (s u : ℕ) (reach : List (Option Rea
     waits' y r yet at = by (cases_eq y u)
       where
         there : y ≢ u → (h.taken ≡ offer (cost_of r) y) ⊎ Contains offers (offer (cost_of r) y) → Contains offers (offer (cost_of r) y)
-        there ne (inl e) = absurd (ne (sym (sym h.vertex ∙ ap (λ (o : Reverse Offer). o.0.vertex) e)))
+        there ne (inl e) = absurd (ne (sym (sym h.vertex ∙ ap (λ (o : Bid). o.vertex) e)))
         there ne (inr among) = among
 
         by : (y ≡ u) ⊎ (y ≢ u) → Contains offers (offer (cost_of r) y)
@@ -203,10 +203,6 @@ module _ (rows : List (List (ℕ × ℕ))) (s u : ℕ) (reach : List (Option Rea
       by x v w q (inl r) = inl r
       by x v w q (inr l) = absurd (contains-none (v, w) l.1)
 
--- the order of offers: the cheaper one is the greater
-abbrev pub offer_cmp : Offer → Offer → Ordering
-offer_cmp x y = ordering_then (nat_cmp x.sum y.sum) (ordering_then (nat_cmp x.hops y.hops) (nat_cmp x.vertex y.vertex))
-
 not-less : (a b : ℕ) (o : Ordering) → is_lt (ordering_then (nat_cmp a b) o) ≡ false → (b ≤ a) × (b ≡ a → is_lt o ≡ false)
 not-less a b o h = by (cases_lt a b) (cases_eq a b)
   where
@@ -220,28 +216,40 @@ not-less a b o h = by (cases_lt a b) (cases_eq a b)
         (le, λ same. sym ((λ i. is_lt (ordering_then (cond (t i) Less (cond (q i) Equal Greater)) o))) ∙ h)
     by (inr le) (inr ne) = (le, λ same. absurd (ne (sym same)))
 
--- an offer that none is below is the cheapest
-pub least-offer : (x : Reverse Offer) (xs : List (Reverse Offer)) → IsUpperBound (λ (a b : Reverse Offer). offer_cmp b.0 a.0) x xs → (o : Reverse Offer) → Contains xs o → IsNoMore (price x) (price o)
-least-offer x [] h o among = absurd (contains-none o among)
-least-offer x (y ∷ ys) h o among = by (contains-cases y o ys among) (least-offer x ys h.1 o)
-  where
-    here : IsNoMore (price x) (price y)
-    here =
-        let a = not-less y.0.sum x.0.sum (ordering_then (nat_cmp y.0.hops x.0.hops) (nat_cmp y.0.vertex x.0.vertex)) h.0 in
-        record { sums = a.0; edges = λ e. (not-less y.0.hops x.0.hops (nat_cmp y.0.vertex x.0.vertex) (a.1 e)).0 }
+-- the order of offers
+abbrev pub offer_cmp : {S : Type 0} → (S → S → Ordering) → Offer S → Offer S → Ordering
+offer_cmp cmp x y = ordering_then (cmp x.sum y.sum) (ordering_then (nat_cmp x.hops y.hops) (nat_cmp x.vertex y.vertex))
 
-    by : (y ≡ o) ⊎ Contains ys o → (Contains ys o → IsNoMore (price x) (price o)) → IsNoMore (price x) (price o)
-    by (inl e) rest = subst (λ z. IsNoMore (price x) (price z)) e here
-    by (inr later) rest = rest later
+-- the cheapest one comes first in a heap
+abbrev pub heap_cmp : {S : Type 0} → (S → S → Ordering) → Reverse (Offer S) → Reverse (Offer S) → Ordering
+heap_cmp cmp x y = offer_cmp cmp y.0 x.0
 
--- the cheapest offer was taken
-pub taken-now : (rows : List (List (ℕ × ℕ))) (s : ℕ) (reach : List (Option Reach)) (settled : List Bool) (offers offers' : List (Reverse Offer)) (x : Reverse Offer) → IsBetween rows s reach settled offers → IsPermutation offers (x ∷ offers') → IsUpperBound (λ (a b : Reverse Offer). offer_cmp b.0 a.0) x offers' → IsTaken rows s x.0.vertex reach settled offers'
-taken-now rows s reach settled offers offers' x h p top = record {
-  bound = h.bound;
-  taken = x;
-  vertex = refl;
-  search = search-along rows s h.bound none_left reach settled offers (x ∷ offers')
-      (λ o among. Contains-permutation offers (x ∷ offers') o p among)
-      (λ o among. Contains-permutation (x ∷ offers') offers o (IsPermutation-sym offers (x ∷ offers') p) among) h.search;
-  least = least-offer x offers' top;
-}
+module _ {S : Type 0} (cmp : S → S → Ordering) (value : S → ℕ) (ordered : (x y : S) → cmp x y ≡ nat_cmp (value x) (value y)) where
+  -- an offer that none is below is the cheapest, since the cheaper one is the greater
+  pub least-offer : (x : Reverse (Offer S)) (xs : List (Reverse (Offer S))) → IsUpperBound (heap_cmp cmp) x xs → (o : Bid) → Contains (bids value xs) o → IsNoMore (price (bid value x)) (price o)
+  least-offer x [] h o among = absurd (contains-none o among)
+  least-offer x (y ∷ ys) h o among = by (contains-cases (bid value y) o (bids value ys) among) (least-offer x ys h.1 o)
+    where
+      here : IsNoMore (price (bid value x)) (price (bid value y))
+      here =
+          let rest = ordering_then (nat_cmp y.0.hops x.0.hops) (nat_cmp y.0.vertex x.0.vertex) in
+          let a = not-less (value y.0.sum) (value x.0.sum) rest (ap (λ (o : Ordering). is_lt (ordering_then o (ordering_then (nat_cmp y.0.hops x.0.hops) (nat_cmp y.0.vertex x.0.vertex)))) (sym (ordered y.0.sum x.0.sum)) ∙ h.0) in
+          record { sums = a.0; edges = λ e. (not-less y.0.hops x.0.hops (nat_cmp y.0.vertex x.0.vertex) (a.1 e)).0 }
+
+      by : (bid value y ≡ o) ⊎ Contains (bids value ys) o → (Contains (bids value ys) o → IsNoMore (price (bid value x)) (price o)) → IsNoMore (price (bid value x)) (price o)
+      by (inl e) rest = subst (λ z. IsNoMore (price (bid value x)) (price z)) e here
+      by (inr later) rest = rest later
+
+  -- the cheapest offer was taken
+  pub taken-now : (rows : List (List (ℕ × ℕ))) (s : ℕ) (reach : List (Option Reach)) (settled : List Bool) (offers offers' : List (Reverse (Offer S))) (x : Reverse (Offer S)) → IsBetween rows s reach settled (bids value offers) → IsPermutation offers (x ∷ offers') → IsUpperBound (heap_cmp cmp) x offers' → IsTaken rows s x.0.vertex reach settled (bids value offers')
+  taken-now rows s reach settled offers offers' x h p top =
+      let q = IsPermutation-map (bid value) offers (x ∷ offers') p in
+      record {
+        bound = h.bound;
+        taken = bid value x;
+        vertex = refl;
+        search = search-along rows s h.bound none_left reach settled (bids value offers) (bid value x ∷ bids value offers')
+            (λ o among. Contains-permutation (bids value offers) (bid value x ∷ bids value offers') o q among)
+            (λ o among. Contains-permutation (bid value x ∷ bids value offers') (bids value offers) o (IsPermutation-sym (bids value offers) (bid value x ∷ bids value offers') q) among) h.search;
+        least = least-offer x offers' top;
+      }

@@ -4,6 +4,7 @@
 mod certificate;
 mod marks;
 mod search;
+mod sums;
 
 pub use certificate::check;
 pub use lama_model::Reach;
