@@ -196,12 +196,14 @@ fn large(alloc: Global) -> Result<PlainRows, AllocError>
     rows_of(alloc, MANY, &edges)
 }
 
-// The three tests below do the same once, and then search once more or check five times more. So what they take tells what
-// a search and a check take.
+// The three tests below do the same once, and then search once more or check twice more. So what they take tells what a search
+// and a check take. Each check is of rows of its own, since what is checked twice untouched may be compiled to one check.
 #[test]
 fn a_large_search_passes(rt: HostRuntime) -> Result<(), Fail> {
     let alloc = rt.alloc();
     let rows = large(alloc)?;
+    let _second = large(alloc)?;
+    let _third = large(alloc)?;
     let reach = distances(alloc, &rows, 0)?;
     assert!(rt; check(&rows, 0, &reach));
     Ok(())
@@ -211,9 +213,11 @@ fn a_large_search_passes(rt: HostRuntime) -> Result<(), Fail> {
 fn a_large_search_is_the_same_again(rt: HostRuntime) -> Result<(), Fail> {
     let alloc = rt.alloc();
     let rows = large(alloc)?;
+    let second = large(alloc)?;
+    let _third = large(alloc)?;
     let reach = distances(alloc, &rows, 0)?;
     assert!(rt; check(&rows, 0, &reach));
-    let again = distances(alloc, &rows, 0)?;
+    let again = distances(alloc, &second, 0)?;
     assert_eq!(rt; again, reach);
     Ok(())
 }
@@ -222,9 +226,11 @@ fn a_large_search_is_the_same_again(rt: HostRuntime) -> Result<(), Fail> {
 fn a_large_search_passes_each_time(rt: HostRuntime) -> Result<(), Fail> {
     let alloc = rt.alloc();
     let rows = large(alloc)?;
+    let second = large(alloc)?;
+    let third = large(alloc)?;
     let reach = distances(alloc, &rows, 0)?;
-    for _ in 0..6 {
-        assert!(rt; check(&rows, 0, &reach));
-    }
+    assert!(rt; check(&rows, 0, &reach));
+    assert!(rt; check(&second, 0, &reach));
+    assert!(rt; check(&third, 0, &reach));
     Ok(())
 }
